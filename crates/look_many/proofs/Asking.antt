@@ -21,6 +21,7 @@ use Rattle.claim_book.proofs.Claims.{may_ask_says}
 use Rattle.lookup_core.specs.declared.ask.Asked.{Asked}
 use Rattle.lookup_core.specs.declared.quest.Quest.{Quest}
 use Rattle.lookup_core.specs.declared.state.Lookup.{Lookup}
+use Rattle.lookup_core.specs.Gathered.{Keeping}
 use Rattle.lookup_core.specs.Matching.{OpenQuery, query_of}
 use Rattle.lookup_core.specs.Sealed.{Accepts}
 use Rattle.lookup_core.specs.Timeouts.{deadline_of}
@@ -56,8 +57,12 @@ record OneStep (G : Quest → Mine → Mine → Type 0) (old new : Seeker) (m : 
   keeps : KeepsMine new after
   longer : Longer old new
 
-sent_step : (drawn deadline path : ℕ) (old new : Seeker) (asked : Asked) (m : Mine) → new.quest ≡ old.quest → Holding old → KeepsMine old m → AsksNext drawn deadline path old.lookup new.lookup asked → OneStep (λ q m n. SentGives q drawn deadline m asked.contact.addr (query_bytes old asked.tx) n) old new m
-sent_step drawn deadline path old new asked m quest holds keeps a =
+-- an ask gathers nothing
+still_keeping : (old new : Seeker) (m : Mine) → new.quest ≡ old.quest → new.gathered ≡ old.gathered → KeepsMine old m → Keeping new.quest.kind m.heard new.gathered
+still_keeping old new m quest same keeps = subst (λ (q : Quest). Keeping q.kind m.heard new.gathered) (sym quest) (subst (Keeping old.quest.kind m.heard) (sym same) keeps.gathered)
+
+sent_step : (drawn deadline path : ℕ) (old new : Seeker) (asked : Asked) (m : Mine) → new.quest ≡ old.quest → new.gathered ≡ old.gathered → Holding old → KeepsMine old m → AsksNext drawn deadline path old.lookup new.lookup asked → OneStep (λ q m n. SentGives q drawn deadline m asked.contact.addr (query_bytes old asked.tx) n) old new m
+sent_step drawn deadline path old new asked m quest same holds keeps a =
     let J = old.lookup.book.journal in
     let c = asked.contact in
     let J' = J ++ Ask path c ∷ [] in
@@ -80,13 +85,14 @@ sent_step drawn deadline path old new asked m quest holds keeps a =
         queries = ap (λ l. l ++ oq ∷ []) (keeps.queries ∙ sym (opens_kept J (Ask path c ∷ []) qs (each_asked J qs holds.is_open))) ∙ ap (λ x. map (as_open J') qs ++ x ∷ []) (sym new_path)
             ∙ sym (map_append (as_open J') qs (q ∷ [])) ∙ ap (map (as_open J')) (sym a.queries) ∙ ap (λ K. map (as_open K) new.lookup.queries) (sym journal);
         given = ap (λ l. l ++ Ask path c ∷ []) keeps.given ∙ sym (driven_ask J path c) ∙ ap driven (sym journal);
+        gathered = still_keeping old new m quest same keeps;
       };
-      longer = record { more = Ask path c ∷ []; quest = quest; setting = ap (λ (b : BookState). b.setting) a.book; journal = journal };
+      longer = record { more = Ask path c ∷ []; quest = quest; setting = ap (λ (b : BookState). b.setting) a.book; journal = journal; gathered = λ is. same };
     }
 
-unsent_step : (drawn deadline path : ℕ) (old new : Seeker) (mid : Lookup) (asked : Asked) (m : Mine) → new.quest ≡ old.quest → Holding old → KeepsMine old m → AsksNext drawn deadline path old.lookup mid asked → new.lookup.queries ≡ old.lookup.queries
+unsent_step : (drawn deadline path : ℕ) (old new : Seeker) (mid : Lookup) (asked : Asked) (m : Mine) → new.quest ≡ old.quest → new.gathered ≡ old.gathered → Holding old → KeepsMine old m → AsksNext drawn deadline path old.lookup mid asked → new.lookup.queries ≡ old.lookup.queries
     → new.lookup.book ≡ added mid.book (Lost (asker asked.contact mid.book.journal) asked.contact SendFault) → OneStep (λ q m n. UnsentGives q drawn m asked.contact.addr (query_bytes old asked.tx) n) old new m
-unsent_step drawn deadline path old new mid asked m quest holds keeps a queries book =
+unsent_step drawn deadline path old new mid asked m quest same holds keeps a queries book =
     let J = old.lookup.book.journal in
     let c = asked.contact in
     let qs = old.lookup.queries in
@@ -108,8 +114,9 @@ unsent_step drawn deadline path old new mid asked m quest holds keeps a queries 
       keeps = record {
         queries = keeps.queries ∙ sym (opens_kept J more qs (each_asked J qs holds.is_open)) ∙ ap (λ K. map (as_open K) qs) (sym journal) ∙ ap (map (as_open new.lookup.book.journal)) (sym queries);
         given = ap (λ l. l ++ more) keeps.given ∙ sym (driven_lost J path c) ∙ ap driven (sym journal);
+        gathered = still_keeping old new m quest same keeps;
       };
-      longer = record { more = more; quest = quest; setting = ap (λ (b : BookState). b.setting) book ∙ ap (λ (b : BookState). b.setting) a.book; journal = journal };
+      longer = record { more = more; quest = quest; setting = ap (λ (b : BookState). b.setting) book ∙ ap (λ (b : BookState). b.setting) a.book; journal = journal; gathered = λ is. same };
     }
 
 -- ---- several
@@ -138,11 +145,12 @@ owned f count place i read old new progress e es h G moved gives_it =
     let st = h.keeps_progress in
     shows_more true f count place (place + 1) None None read (owned_by i) old new progress progress e es h (record h.end { sends = h.end.sends + 1; each = moved.each }) moved.longer (λ idle. absurd cc) gives_it
     (record { moment = st.moment; ends = st.ends; sends = (let e = st.sends in omega (arith, e)); got = st.got; foreign = st.foreign; replied = st.replied; receives = st.receives; left = st.left; owed_is = st.owed_is }) moved.keeps
+    (record { within = h.keeps_saying.within; left = h.keeps_saying.left; some = λ idle. absurd cc })
 
 module _ (f : Frame) (count place i path : ℕ) (read : Reading) (old : List Seeker) (d new : Seeker) (progress : Progress) (asked : Asked) (es : List Event) where
-  sent_on : AllByRecursion Holding old → i < length old → new.quest ≡ (get_or old i d).quest → AsksNext (word f.seed place) (deadline_of progress.moment (get_or old i d).quest.timeout) path (get_or old i d).lookup new.lookup asked → ManyShow true f count old progress place None read es
+  sent_on : AllByRecursion Holding old → i < length old → new.quest ≡ (get_or old i d).quest → new.gathered ≡ (get_or old i d).gathered → AsksNext (word f.seed place) (deadline_of progress.moment (get_or old i d).quest.timeout) path (get_or old i d).lookup new.lookup asked → ManyShow true f count old progress place None read es
       → ManyShow true f count (set old i new) progress (place + 1) None (and_then read (owned_by i)) (es ++ Sent asked.contact.addr (query_bytes (get_or old i d) asked.tx) ∷ [])
-  sent_on holds lt quest a h =
+  sent_on holds lt quest same a h =
       let st = h.keeps_progress in
       let s = h.end in
       let one = get_or old i d in
@@ -152,15 +160,15 @@ module _ (f : Frame) (count place i path : ℕ) (read : Reading) (old : List See
       let a' : AsksNext drawn (deadline_of s.moment one.quest.timeout) path one.lookup new.lookup asked = subst (λ n. AsksNext (word f.seed n) (deadline_of s.moment one.quest.timeout) path one.lookup new.lookup asked) (sym st.sends) (subst (λ n. AsksNext (word f.seed place) (deadline_of n one.quest.timeout) path one.lookup new.lookup asked) (sym st.moment) a) in
       let G = λ (q : Quest) (m n : Mine). SentGives q drawn (deadline_of s.moment q.timeout) m to bytes n in
       let step : (m : Mine) → Holding one → KeepsMine one m → OneStep G one new m = (λ m hm km.
-      let x = sent_step drawn (deadline_of s.moment one.quest.timeout) path one new asked m quest hm km a' in
+      let x = sent_step drawn (deadline_of s.moment one.quest.timeout) path one new asked m quest same hm km a' in
       record { after = x.after; step = subst (λ (q : Quest). SentGives new.quest drawn (deadline_of s.moment q.timeout) m to bytes x.after) (sym quest) x.step; keeps = x.keeps; longer = x.longer }) in
       let moved = moves_on G i old d new s.each holds h.keeps_each lt step in
       owned f count place i read old (set old i new) progress (Sent to bytes) es h G moved (inl (record { owner = i; owns = refl; none_owed = st.owed_is; each = moved.each; moves = moved.moves; after = refl }))
 
-  unsent_on : (mid : Lookup) → AllByRecursion Holding old → i < length old → new.quest ≡ (get_or old i d).quest → AsksNext (word f.seed place) (deadline_of progress.moment (get_or old i d).quest.timeout) path (get_or old i d).lookup mid asked → new.lookup.queries ≡ (get_or old i d).lookup.queries
+  unsent_on : (mid : Lookup) → AllByRecursion Holding old → i < length old → new.quest ≡ (get_or old i d).quest → new.gathered ≡ (get_or old i d).gathered → AsksNext (word f.seed place) (deadline_of progress.moment (get_or old i d).quest.timeout) path (get_or old i d).lookup mid asked → new.lookup.queries ≡ (get_or old i d).lookup.queries
       → new.lookup.book ≡ added mid.book (Lost (asker asked.contact mid.book.journal) asked.contact SendFault) → ManyShow true f count old progress place None read es
       → ManyShow true f count (set old i new) progress (place + 1) None (and_then read (owned_by i)) (es ++ Unsent asked.contact.addr (query_bytes (get_or old i d) asked.tx) ∷ [])
-  unsent_on mid holds lt quest a queries book h =
+  unsent_on mid holds lt quest same a queries book h =
       let st = h.keeps_progress in
       let s = h.end in
       let one = get_or old i d in
@@ -169,22 +177,22 @@ module _ (f : Frame) (count place i path : ℕ) (read : Reading) (old : List See
       let drawn = word f.seed (f.place + s.sends) in
       let a' : AsksNext drawn (deadline_of progress.moment one.quest.timeout) path one.lookup mid asked = subst (λ n. AsksNext (word f.seed n) (deadline_of progress.moment one.quest.timeout) path one.lookup mid asked) (sym st.sends) a in
       let G = λ (q : Quest) (m n : Mine). UnsentGives q drawn m to bytes n in
-      let moved = moves_on G i old d new s.each holds h.keeps_each lt (λ m hm km. unsent_step drawn (deadline_of progress.moment one.quest.timeout) path one new mid asked m quest hm km a' queries book) in
+      let moved = moves_on G i old d new s.each holds h.keeps_each lt (λ m hm km. unsent_step drawn (deadline_of progress.moment one.quest.timeout) path one new mid asked m quest same hm km a' queries book) in
       owned f count place i read old (set old i new) progress (Unsent to bytes) es h G moved (inl (record { owner = i; owns = refl; none_owed = st.owed_is; each = moved.each; moves = moved.moves; after = refl }))
 
 -- whatever was told since any beginning
-pub ask_goes : (accepts : Accepts) (tags : Tags) (server : ServeSetting) (i path : ℕ) (words words' : WordsState) (old : List Seeker) (d new : Seeker) (progress : Progress) (told told' : Option (List Event)) → AllByRecursion Holding old → i < length old → new.quest ≡ (get_or old i d).quest → words' ≡ record words { place = words.place + 1 }
+pub ask_goes : (accepts : Accepts) (tags : Tags) (server : ServeSetting) (i path : ℕ) (words words' : WordsState) (old : List Seeker) (d new : Seeker) (progress : Progress) (told told' : Option (List Event)) → AllByRecursion Holding old → i < length old → new.quest ≡ (get_or old i d).quest → new.gathered ≡ (get_or old i d).gathered → words' ≡ record words { place = words.place + 1 }
     → AsksOver progress.moment words path (get_or old i d) new told told' → (f : Frame) (count : ℕ) (read : Reading) (began : Option (List Event)) → IsFrame accepts tags server words.seed f
     → Grows began told (λ events. ManyShow true f count old progress words.place None read events) → Grows began told' (λ events. ManyShow true f count (set old i new) progress words'.place None (and_then read (owned_by i)) events)
-ask_goes accepts tags server i path words words' old d new progress told told' holds lt quest next (is_sent asked a grows) f count read began is h =
+ask_goes accepts tags server i path words words' old d new progress told told' holds lt quest same next (is_sent asked a grows) f count read began is h =
     let one = get_or old i d in
     grows_then began told told' _ _ _ h grows (λ es fs shows e.
     subst (λ n. ManyShow true f count (set old i new) progress n None (and_then read (owned_by i)) (es ++ fs)) (sym (ap (λ (w : WordsState). w.place) next))
     (subst (λ l. ManyShow true f count (set old i new) progress (words.place + 1) None (and_then read (owned_by i)) (es ++ l)) (sym e)
-    (sent_on f count words.place i path read old d new progress asked es holds lt quest (subst (λ b. AsksNext (word b words.place) (deadline_of progress.moment one.quest.timeout) path one.lookup new.lookup asked) (sym is.seed_is) a) shows)))
-ask_goes accepts tags server i path words words' old d new progress told told' holds lt quest next (is_unsent asked mid a queries book grows) f count read began is h =
+    (sent_on f count words.place i path read old d new progress asked es holds lt quest same (subst (λ b. AsksNext (word b words.place) (deadline_of progress.moment one.quest.timeout) path one.lookup new.lookup asked) (sym is.seed_is) a) shows)))
+ask_goes accepts tags server i path words words' old d new progress told told' holds lt quest same next (is_unsent asked mid a queries book grows) f count read began is h =
     let one = get_or old i d in
     grows_then began told told' _ _ _ h grows (λ es fs shows e.
     subst (λ n. ManyShow true f count (set old i new) progress n None (and_then read (owned_by i)) (es ++ fs)) (sym (ap (λ (w : WordsState). w.place) next))
     (subst (λ l. ManyShow true f count (set old i new) progress (words.place + 1) None (and_then read (owned_by i)) (es ++ l)) (sym e)
-    (unsent_on f count words.place i path read old d new progress asked es mid holds lt quest (subst (λ b. AsksNext (word b words.place) (deadline_of progress.moment one.quest.timeout) path one.lookup mid asked) (sym is.seed_is) a) queries book shows)))
+    (unsent_on f count words.place i path read old d new progress asked es mid holds lt quest same (subst (λ b. AsksNext (word b words.place) (deadline_of progress.moment one.quest.timeout) path one.lookup mid asked) (sym is.seed_is) a) queries book shows)))

@@ -115,9 +115,9 @@ record Leaves (moment p : ℕ) (old new : Seeker) : Type 0 where
   left : NothingLeft new
   others : (q : ℕ) → (q ≡ p → ⊥) → may_ask old.lookup.book.setting q old.lookup.book.journal ≡ None → may_ask new.lookup.book.setting q new.lookup.book.journal ≡ None
 
-leaves_of : (moment p : ℕ) (old new : Seeker) → new.quest ≡ old.quest → IsReady moment old → NothingLeft old → AsksMore p old.lookup.book new.lookup.book → length new.lookup.queries ≤ length old.lookup.queries + 1 → AllByRecursion (λ (q : Query). q.deadline ≤ deadline_of moment old.quest.timeout) new.lookup.queries → Leaves moment p old new
-leaves_of moment p old new quest r left b opens deadlines = record {
-  longer = record { more = b.more; quest = quest; setting = b.setting; journal = b.journal };
+leaves_of : (moment p : ℕ) (old new : Seeker) → new.quest ≡ old.quest → new.gathered ≡ old.gathered → IsReady moment old → NothingLeft old → AsksMore p old.lookup.book new.lookup.book → length new.lookup.queries ≤ length old.lookup.queries + 1 → AllByRecursion (λ (q : Query). q.deadline ≤ deadline_of moment old.quest.timeout) new.lookup.queries → Leaves moment p old new
+leaves_of moment p old new quest same r left b opens deadlines = record {
+  longer = record { more = b.more; quest = quest; setting = b.setting; journal = b.journal; gathered = λ is. same };
   driven_on = record { more = b.more; journal = b.journal; all_driven = b.all_driven };
   one = b.one;
   open_more = opens;
@@ -134,16 +134,16 @@ leaves_of moment p old new quest r left b opens deadlines = record {
   others = b.others;
 }
 
-leaves : (moment p : ℕ) (words : WordsState) (old new : Seeker) (told told' : Option (List Event)) → new.quest ≡ old.quest → IsReady moment old → NothingLeft old → AsksOver moment words p old new told told' → Leaves moment p old new
-leaves moment p words old new told told' quest r left (is_sent asked a grows) =
+leaves : (moment p : ℕ) (words : WordsState) (old new : Seeker) (told told' : Option (List Event)) → new.quest ≡ old.quest → new.gathered ≡ old.gathered → IsReady moment old → NothingLeft old → AsksOver moment words p old new told told' → Leaves moment p old new
+leaves moment p words old new told told' quest same r left (is_sent asked a grows) =
     let qs = old.lookup.queries in
     let q : Query = record { tx = asked.tx; contact = asked.contact; deadline = deadline_of moment old.quest.timeout } in
-    leaves_of moment p old new quest r left
+    leaves_of moment p old new quest same r left
     (subst (AsksMore p old.lookup.book) (sym a.book) (sent_more p asked.contact old.lookup.book r.some_path r.small a.legal a.may))
     (let longer = ap length a.queries ∙ length-append qs (q ∷ []) in omega (arith, longer))
     (subst (AllByRecursion (λ (x : Query). x.deadline ≤ deadline_of moment old.quest.timeout)) (sym a.queries) (all_append (λ (x : Query). x.deadline ≤ deadline_of moment old.quest.timeout) qs (q ∷ []) r.deadlines (omega arith, tt)))
-leaves moment p words old new told told' quest r left (is_unsent asked mid a queries book grows) =
-    leaves_of moment p old new quest r left
+leaves moment p words old new told told' quest same r left (is_unsent asked mid a queries book grows) =
+    leaves_of moment p old new quest same r left
     (subst (AsksMore p old.lookup.book) (sym (lost_added _ _ p old.lookup mid new.lookup asked a book)) (unsent_more p asked.contact old.lookup.book r.some_path r.small a.legal a.may))
     (let same = ap length queries in omega (arith, same))
     (subst (AllByRecursion (λ (x : Query). x.deadline ≤ deadline_of moment old.quest.timeout)) (sym queries) r.deadlines)
@@ -253,11 +253,11 @@ pub record LeavesAll (i p : ℕ) (ks : List Seeker) (new : Seeker) (progress : P
   pub driven_on : AllZip DrivenOn ks (set ks i new)
   pub seats : AllZip SameSeat ks (set ks i new)
 
-pub leaves_all : (i p : ℕ) (words words' : WordsState) (ks : List Seeker) (d new : Seeker) (progress : Progress) (told told' : Option (List Event)) → MayAskAll ks progress words → NoneBefore i p ks → i < length ks → new.quest ≡ (get_or ks i d).quest → SameSeat (get_or ks i d) new → Holding new
+pub leaves_all : (i p : ℕ) (words words' : WordsState) (ks : List Seeker) (d new : Seeker) (progress : Progress) (told told' : Option (List Event)) → MayAskAll ks progress words → NoneBefore i p ks → i < length ks → new.quest ≡ (get_or ks i d).quest → new.gathered ≡ (get_or ks i d).gathered → SameSeat (get_or ks i d) new → Holding new
     → words' ≡ record words { place = words.place + 1 } → AsksOver progress.moment words p (get_or ks i d) new told told' → LeavesAll i p ks new progress words'
-leaves_all i p words words' ks d new progress told told' may none lt quest seat holds next over =
+leaves_all i p words words' ks d new progress told told' may none lt quest same seat holds next over =
     let k = get_or ks i d in
-    let x = leaves progress.moment p words k new told told' quest (all_at (IsReady progress.moment) ks i d may.ready lt) (all_at NothingLeft ks i d may.settled lt) over in
+    let x = leaves progress.moment p words k new told told' quest same (all_at (IsReady progress.moment) ks i d may.ready lt) (all_at NothingLeft ks i d may.settled lt) over in
     let one = asks_set ks i d new lt x.one in
     let opens = queries_set ks i d new lt x.open_more in
     let ready = all_set (IsReady progress.moment) ks i new may.ready x.ready in
@@ -284,16 +284,17 @@ leaves_all i p words words' ks d new progress told told' may none lt quest seat 
       seats = zip_set SameSeat (λ k. refl) ks i d new seat;
     }
 
-pub asks_one : (accepts : Accepts) (tags : Tags) (server : ServeSetting) (host : Hands) (i p : ℕ) (words words' : WordsState) (ks : List Seeker) (d new : Seeker) (progress : Progress) (told told' : Option (List Event)) → MayAskAll ks progress words → NoneBefore i p ks → i < length ks → new.quest ≡ (get_or ks i d).quest → SameSeat (get_or ks i d) new → Holding new
+pub asks_one : (accepts : Accepts) (tags : Tags) (server : ServeSetting) (host : Hands) (i p : ℕ) (words words' : WordsState) (ks : List Seeker) (d new : Seeker) (progress : Progress) (told told' : Option (List Event)) → MayAskAll ks progress words → NoneBefore i p ks → i < length ks → new.quest ≡ (get_or ks i d).quest → new.gathered ≡ (get_or ks i d).gathered → SameSeat (get_or ks i d) new → Holding new
     → words' ≡ record words { place = words.place + 1 } → AsksOver progress.moment words p (get_or ks i d) new told told' → AsksAll accepts tags server (stand ks progress words host told) (stand (set ks i new) progress words' host told') [] (i ∷ [])
-asks_one accepts tags server host i p words words' ks d new progress told told' may none lt quest seat holds next over =
-    let x = leaves_all i p words words' ks d new progress told told' may none lt quest seat holds next over in
+asks_one accepts tags server host i p words words' ks d new progress told told' may none lt quest same seat holds next over =
+    let x = leaves_all i p words words' ks d new progress told told' may none lt quest same seat holds next over in
     record {
       made = i ∷ [];
       advances = record {
         more = owned_by i;
         owners_are = refl;
-        goes = ask_goes accepts tags server i p words words' ks d new progress told told' may.holds lt quest next over;
+        none_told = refl;
+        goes = ask_goes accepts tags server i p words words' ks d new progress told told' may.holds lt quest same next over;
         ran = ran_none host;
         seed = ap (λ (w : WordsState). w.seed) next;
       };
@@ -318,6 +319,7 @@ asks_none accepts tags server host words words' ks ls progress told told' owners
       advances = record {
         more = nothing_read;
         owners_are = refl;
+        none_told = refl;
         goes = λ f count read began is h. subst (λ r. Grows began told (λ events. ManyShow true f count ks progress words.place None r events)) (sym (nothing_after read)) h;
         ran = ran_none host;
         seed = refl;
@@ -345,6 +347,7 @@ asks_then accepts tags server host words words' words'' ks ls ms progress told t
       advances = record {
         more = and_then g.more h.more;
         owners_are = ap (λ l. l ++ h.more.owners) g.owners_are ∙ ap (λ l. a.made ++ l) h.owners_are;
+        none_told = ap (λ l. l ++ h.more.told) g.none_told ∙ h.none_told;
         goes = λ f count read began is x.
             subst (λ r. Grows began told'' (λ events. ManyShow true f count ms progress words''.place None r events)) (then_assoc read g.more h.more)
             (h.goes f count (and_then read g.more) began (record { accepts_is = is.accepts_is; tags_is = is.tags_is; server_is = is.server_is; seed_is = is.seed_is ∙ sym g.seed }) (g.goes f count read began is x));

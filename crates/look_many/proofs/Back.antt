@@ -10,15 +10,16 @@ use Rattle.turn_book.proofs.Ended.{all_in_row}
 use Rattle.contact_table.specs.TableState.{TableState}
 use Rattle.peer_store.specs.Peers.{PeersState}
 use Rattle.item_store.specs.Items.{ItemsState}
-use Rattle.claim_book.specs.State.{BookState}
 use Rattle.serve_crew.specs.Hands.{Hands, SameHands, TablePass, PeersPass, ItemsPass, hands}
 use Rattle.look_many.specs.declared.seeker.Seeker.{Seeker}
+use Rattle.look_many.specs.declared.finish.Done.{Done}
 use Rattle.look_many.specs.declared.found.One.{One}
 use Rattle.look_many.specs.inner.ManySteps.{IsSeated, IsRunOut}
 use Rattle.look_many.specs.inner.Going.{SameSeats}
-use Rattle.look_many.specs.inner.Seats.{IsOverBook, IsDone, RolesFrom, rows, AreBack}
+use Rattle.look_many.specs.inner.Seats.{IsOverBook, IsDone, IsHanded, IsOutcome, done_of, RolesFrom, rows, AreBack}
 use Rattle.look_many.proofs.Starting.{seated_at, roles_at}
 use Rattle.look_many.proofs.Gone.{seated_still}
+use Rattle.look_many.proofs.Zips.{zip_weaker}
 
 roles_still : (r : ℕ) (ks ls : List Seeker) → RolesFrom r ks → SameSeats ks ls → RolesFrom r ls
 roles_still r [] [] h s = tt
@@ -66,28 +67,35 @@ module _ (T : TurnState TableState) (P : TurnState PeersState) (I : TurnState It
     own = All-same (λ (p : ItemsPass). p.turn ≡ I.id) items_row (host'.items ∷ []) items_is (All-cons (λ (p : ItemsPass). p.turn ≡ I.id) host'.items [] (same.items.turn ∙ ap (λ (h : Hands). h.items.turn) is_host) (All-nil (λ (p : ItemsPass). p.turn ≡ I.id)));
   }
 
--- ---- the books
+-- ---- what is left of them
 
-books_turned : (ls : List Seeker) → reverse (map (λ (k : Seeker). k.lookup.book) (reverse ls)) ≡ map (λ (k : Seeker). k.lookup.book) ls
-books_turned [] = refl
-books_turned (k ∷ ls) =
-    ap (λ l. reverse (map (λ (x : Seeker). x.lookup.book) l)) (reverse-append (k ∷ []) ls)
-    ∙ ap reverse (map-append (λ (x : Seeker). x.lookup.book) (reverse ls) (k ∷ []))
-    ∙ reverse-append (map (λ (x : Seeker). x.lookup.book) (reverse ls)) (k.lookup.book ∷ [])
-    ∙ ap (λ l. k.lookup.book ∷ l) (books_turned ls)
+all_turned : (ls : List Seeker) → reverse (map done_of (reverse ls)) ≡ map done_of ls
+all_turned [] = refl
+all_turned (k ∷ ls) =
+    ap (λ l. reverse (map done_of l)) (reverse-append (k ∷ []) ls)
+    ∙ ap reverse (map-append done_of (reverse ls) (k ∷ []))
+    ∙ reverse-append (map done_of (reverse ls)) (done_of k ∷ [])
+    ∙ ap (λ l. done_of k ∷ l) (all_turned ls)
 
-over_books : (ls : List Seeker) → AllByRecursion IsRunOut ls → AllByRecursion IsOverBook (map (λ (k : Seeker). k.lookup.book) ls)
-over_books [] h = tt
-over_books (k ∷ ls) h = (h.0.run_out, over_books ls h.1)
+over_all : (ls : List Seeker) → AllByRecursion IsRunOut ls → AllByRecursion (λ (d : Done). IsOverBook d.book) (map done_of ls)
+over_all [] h = tt
+over_all (k ∷ ls) h = (h.0.run_out, over_all ls h.1)
 
-pub books_over : (books : List BookState) (ls : List Seeker) → books ≡ map (λ (k : Seeker). k.lookup.book) (reverse ls) → AllByRecursion IsRunOut ls → AllByRecursion IsOverBook (reverse books)
-books_over books ls is h = subst (AllByRecursion IsOverBook) (sym (ap reverse is ∙ books_turned ls)) (over_books ls h)
+pub all_over : (done : List Done) (ls : List Seeker) → done ≡ map done_of (reverse ls) → AllByRecursion IsRunOut ls → AllByRecursion (λ (d : Done). IsOverBook d.book) (reverse done)
+all_over done ls is h = subst (AllByRecursion (λ (d : Done). IsOverBook d.book)) (sym (ap reverse is ∙ all_turned ls)) (over_all ls h)
 
-done_of : (ls : List Seeker) (ones : List One) → AllZip IsDone (map (λ (k : Seeker). k.lookup.book) ls) ones → AllZip (λ (k : Seeker) (one : One). IsDone k.lookup.book one) ls ones
-done_of [] [] h = tt
-done_of [] (o ∷ os) h = absurd h
-done_of (k ∷ ls) [] h = absurd h
-done_of (k ∷ ls) (o ∷ os) h = (h.0, done_of ls os h.1)
+-- what each found, and what it gathered
+outcomes_of : (ls : List Seeker) (ones : List One) → AllZip IsOutcome (map done_of ls) ones → AllZip (λ (k : Seeker) (one : One). IsOutcome (done_of k) one) ls ones
+outcomes_of [] [] h = tt
+outcomes_of [] (o ∷ os) h = absurd h
+outcomes_of (k ∷ ls) [] h = absurd h
+outcomes_of (k ∷ ls) (o ∷ os) h = (h.0, outcomes_of ls os h.1)
 
-pub books_done : (books : List BookState) (ls : List Seeker) (ones : List One) → books ≡ map (λ (k : Seeker). k.lookup.book) (reverse ls) → AllZip IsDone (reverse books) ones → AllZip (λ (k : Seeker) (one : One). IsDone k.lookup.book one) ls ones
-books_done books ls ones is h = done_of ls ones (subst (λ l. AllZip IsDone l ones) (ap reverse is ∙ books_turned ls) h)
+all_outcomes : (done : List Done) (ls : List Seeker) (ones : List One) → done ≡ map done_of (reverse ls) → AllZip IsOutcome (reverse done) ones → AllZip (λ (k : Seeker) (one : One). IsOutcome (done_of k) one) ls ones
+all_outcomes done ls ones is h = outcomes_of ls ones (subst (λ l. AllZip IsOutcome l ones) (ap reverse is ∙ all_turned ls) h)
+
+pub all_done : (done : List Done) (ls : List Seeker) (ones : List One) → done ≡ map done_of (reverse ls) → AllZip IsOutcome (reverse done) ones → AllZip (λ (k : Seeker) (one : One). IsDone k.lookup.book one) ls ones
+all_done done ls ones is h = zip_weaker (λ (k : Seeker) (one : One). IsOutcome (done_of k) one) (λ (k : Seeker) (one : One). IsDone k.lookup.book one) (λ k one x. x.found) ls ones (all_outcomes done ls ones is h)
+
+pub all_handed : (done : List Done) (ls : List Seeker) (ones : List One) → done ≡ map done_of (reverse ls) → AllZip IsOutcome (reverse done) ones → AllZip (λ (k : Seeker) (one : One). IsHanded k.gathered one) ls ones
+all_handed done ls ones is h = zip_weaker (λ (k : Seeker) (one : One). IsOutcome (done_of k) one) (λ (k : Seeker) (one : One). IsHanded k.gathered one) (λ k one x. x.handed) ls ones (all_outcomes done ls ones is h)

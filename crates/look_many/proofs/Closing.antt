@@ -15,12 +15,8 @@ use Rattle.contact_table.specs.declared.calls.TableCall.{TableCall}
 use Rattle.contact_table.specs.declared.calls.TableReply.{TableReply}
 use Rattle.peer_store.specs.Peers.{PeersState, no_peers as empty_peers}
 use Rattle.peer_store.specs.PeersStep.{PeersMay, PeersStep, peers_after}
-use Rattle.peer_store.specs.declared.calls.PeerCall.{PeerCall}
-use Rattle.peer_store.specs.declared.calls.PeerReply.{PeerReply}
 use Rattle.item_store.specs.Items.{ItemsState, no_items as empty_items}
 use Rattle.item_store.specs.ItemSteps.{ItemMay, ItemStep, item_after}
-use Rattle.item_store.specs.declared.calls.ItemCall.{ItemCall}
-use Rattle.item_store.specs.declared.calls.ItemReply.{ItemReply}
 use Rattle.serve_crew.specs.Hands.{TablePass}
 use Rattle.look_many.specs.declared.found.Many.{Many}
 use Rattle.look_many.specs.declared.seeker.ManyFault.{ManyFault}
@@ -48,10 +44,10 @@ module _ (k : Task) (r : Rows) (before after : TableState) (table_calls : ℕ) (
     (t : Closed TableMay TableStep table_after r.tables r.table_row after table_calls) (p : Closed PeersMay PeersStep peers_after r.stores r.peers_row held peers_calls) (i : Closed ItemMay ItemStep item_after r.shelves r.items_row shelf items_calls)
     (start : r.tables.start ≡ before) (no_peers : r.stores.start ≡ empty_peers before.per_address) (no_items : r.shelves.start ≡ empty_items before.per_address) (limits : IsWithinLimits k.setting) (small : k.server.k < 256)
     (words words' : WordsState) (told told' : Option (List Event)) where
-  pub ok_looked : (x : Result Many ManyFault) → IfOk x (FoundBack k r words words' told told') → IfOk x (ManyLooked k.accepts k.tags k.server k.setting k.targets k.lasting before after words words' told told')
+  pub ok_looked : (x : Result Many ManyFault) → IfOk x (FoundBack k r words words' told told') → IfOk x (ManyLooked k.accepts k.tags k.server k.setting k.jobs k.lasting before after words words' told told')
   ok_looked (Ok many) h = many_looked k r before after table_calls held peers_calls shelf items_calls t p i start no_peers no_items limits small words words' told told' many h
   ok_looked (Err fault) h = tt
 
-  pub err_stopped : (x : Result Many ManyFault) → IfErr x (StoppedBack k r words words' told told') → IfErr x (ManyStopped k.accepts k.tags k.server k.setting k.targets k.lasting before after words words' told told')
+  pub err_stopped : (x : Result Many ManyFault) → IfErr x (StoppedBack k r words words' told told') → IfErr x (ManyStopped k.accepts k.tags k.server k.setting k.jobs k.lasting before after words words' told told')
   err_stopped (Ok many) h = tt
   err_stopped (Err fault) h = inl (many_began k r before after table_calls held peers_calls shelf items_calls t p i start no_peers no_items limits small words words' told told' fault h)

@@ -107,9 +107,11 @@ paid_received busy old new progress progress' true room r = record {
   few_receives = r.few_receives;
   still = r.still;
   left = r.left;
+  unsaid = r.unsaid;
   foreign = r.foreign;
   few_foreign = r.few_foreign;
   same = r.same;
+  same_gathered = r.same_gathered;
   none_open = r.none_open;
 }
 paid_received busy old new progress progress' false room r = r

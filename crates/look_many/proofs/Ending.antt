@@ -5,7 +5,7 @@ use Rattle.std.specs.List.{flat_map}
 use Rattle.std.proofs.lemmas.Grind.{flat_map-append}
 use Rattle.std.proofs.lemmas.Bool.{eqb-true}
 use Rattle.std.proofs.lemmas.List.Elements.{All-nil, All-cons, All-head, All-tail, All-same, All-append, All-weaker, filter-append, filter_passes}
-use Rattle.kad_base.specs.declared.types.Id.{Id}
+use Rattle.look_many.specs.declared.job.Job.{Job}
 use Rattle.kad_base.specs.declared.serial.Made.{Made}
 use Rattle.kad_base.specs.Serial.{made, calls_of, left_by, IsRun}
 use Rattle.turn_book.specs.Turns.{TurnState, PassState, Closed, mine}
@@ -30,38 +30,39 @@ use Rattle.node_serve.specs.declared.setting.ServeSetting.{ServeSetting}
 use Rattle.serve_crew.specs.Hands.{Hands, TablePass, at_table, at_peers, at_items}
 use Rattle.serve_crew.specs.Runs.{Ran, HadAllMemory, AreCalls}
 use Rattle.look_many.specs.declared.seeker.Seeker.{Seeker}
+use Rattle.look_many.specs.Job.{target_of}
 use Rattle.look_many.specs.ManyLooked.{seeds_for, seeks, AreOfDriver}
 use Rattle.look_many.specs.inner.Seats.{RolesFrom, Rows, AreBack}
 
 -- ---- the calls for the seeds, before the turn is opened
 
-seek_made : ServeSetting → TableState → Id → Made TableCall TableReply
-seek_made server table target = made 0 (Closest target server.k) (Listed (seeds_for server table target))
+seek_made : ServeSetting → TableState → Job → Made TableCall TableReply
+seek_made server table job = made 0 (Closest (target_of job) server.k) (Listed (seeds_for server table job))
 
-pub sought : ServeSetting → TableState → List Id → List (Made TableCall TableReply)
-sought server table targets = map (seek_made server table) targets
+pub sought : ServeSetting → TableState → List Job → List (Made TableCall TableReply)
+sought server table jobs = map (seek_made server table) jobs
 
 -- they leave the table as it was
-sought_run : (server : ServeSetting) (table : TableState) (targets : List Id) (run : List (Made TableCall TableReply)) → IsRun TableMay TableStep table_after table run → IsRun TableMay TableStep table_after table (sought server table targets ++ run)
+sought_run : (server : ServeSetting) (table : TableState) (jobs : List Job) (run : List (Made TableCall TableReply)) → IsRun TableMay TableStep table_after table run → IsRun TableMay TableStep table_after table (sought server table jobs ++ run)
 unfolding sought seek_made
 sought_run server table [] run h = h
 sought_run server table (t ∷ ts) run h = (tt, refl, sought_run server table ts run h)
 
-sought_leaves : (server : ServeSetting) (table : TableState) (targets : List Id) (run : List (Made TableCall TableReply)) → left_by table_after table (sought server table targets ++ run) ≡ left_by table_after table run
+sought_leaves : (server : ServeSetting) (table : TableState) (jobs : List Job) (run : List (Made TableCall TableReply)) → left_by table_after table (sought server table jobs ++ run) ≡ left_by table_after table run
 unfolding sought seek_made
 sought_leaves server table [] run = refl
 sought_leaves server table (t ∷ ts) run = sought_leaves server table ts run
 
-sought_all : (P : Made TableCall TableReply → Type 0) (server : ServeSetting) (table : TableState) (targets : List Id) → ((t : Id) → P (seek_made server table t)) → All P (sought server table targets)
+sought_all : (P : Made TableCall TableReply → Type 0) (server : ServeSetting) (table : TableState) (jobs : List Job) → ((t : Job) → P (seek_made server table t)) → All P (sought server table jobs)
 unfolding sought
 sought_all P server table [] h = All-nil P
 sought_all P server table (t ∷ ts) h = All-cons P (seek_made server table t) (sought server table ts) (h t) (sought_all P server table ts h)
 
 -- all are the driver's
-sought_driver : (server : ServeSetting) (table : TableState) (targets : List Id) → calls_of 0 (sought server table targets) ≡ flat_map (at_table 0) (map (seeks server table) targets)
+sought_driver : (server : ServeSetting) (table : TableState) (jobs : List Job) → calls_of 0 (sought server table jobs) ≡ flat_map (at_table 0) (map (seeks server table) jobs)
 unfolding sought seek_made
 sought_driver server table [] = refl
-sought_driver server table (t ∷ ts) = ap (λ l. made 0 (Closest t server.k) (Listed (seeds_for server table t)) ∷ l) (sought_driver server table ts)
+sought_driver server table (t ∷ ts) = ap (λ l. made 0 (Closest (target_of t) server.k) (Listed (seeds_for server table t)) ∷ l) (sought_driver server table ts)
 
 zero_other : (r : ℕ) → (0 == suc r) ≡ false
 zero_other r = elim (0 == suc r) as (λ b. (0 == suc r) ≡ b → (0 == suc r) ≡ false) [
@@ -69,7 +70,7 @@ zero_other r = elim (0 == suc r) as (λ b. (0 == suc r) ≡ b → (0 == suc r) �
   | false ↦ λ e. e
 ] refl
 
-sought_other : (server : ServeSetting) (table : TableState) (targets : List Id) (r : ℕ) → calls_of (suc r) (sought server table targets) ≡ []
+sought_other : (server : ServeSetting) (table : TableState) (jobs : List Job) (r : ℕ) → calls_of (suc r) (sought server table jobs) ≡ []
 unfolding sought seek_made
 sought_other server table [] r = refl
 sought_other server table (t ∷ ts) r = ap (λ b. cond b (seek_made server table t ∷ calls_of (suc r) (sought server table ts)) (calls_of (suc r) (sought server table ts))) (zero_other r) ∙ sought_other server table ts r
@@ -107,9 +108,9 @@ module _ {S C R : Type 0} (may : ℕ → C → Type 0) (step : S → ℕ → C �
   calls_of_one : calls_of pass.role closed.run ≡ mine pass
   calls_of_one = All-head (λ (x : PassState C R). calls_of x.role closed.run ≡ mine x) pass [] (subst (All (λ (x : PassState C R). calls_of x.role closed.run ≡ mine x)) is closed.in_order)
 
-module _ (server : ServeSetting) (targets : List Id) (r : Rows) (before after : TableState) (table_calls : ℕ) (held : PeersState) (peers_calls : ℕ) (shelf : ItemsState) (items_calls : ℕ)
+module _ (server : ServeSetting) (jobs : List Job) (r : Rows) (before after : TableState) (table_calls : ℕ) (held : PeersState) (peers_calls : ℕ) (shelf : ItemsState) (items_calls : ℕ)
     (t : Closed TableMay TableStep table_after r.tables r.table_row after table_calls) (p : Closed PeersMay PeersStep peers_after r.stores r.peers_row held peers_calls) (i : Closed ItemMay ItemStep item_after r.shelves r.items_row shelf items_calls)
-    (start : r.tables.start ≡ before) (no_peers : r.stores.start ≡ empty_peers before.per_address) (no_items : r.shelves.start ≡ empty_items before.per_address) (host : Hands) (seekers : List Seeker) (back : AreBack r host seekers) (count : length seekers ≡ length targets) where
+    (start : r.tables.start ≡ before) (no_peers : r.stores.start ≡ empty_peers before.per_address) (no_items : r.shelves.start ≡ empty_items before.per_address) (host : Hands) (seekers : List Seeker) (back : AreBack r host seekers) (count : length seekers ≡ length jobs) where
   -- what holds of each pass's own calls holds of all calls on the table
   all_tables : (P : Made TableCall TableReply → Type 0) → All P (mine host.table) → All (λ (k : Seeker). All P (mine k.pass)) seekers → All P t.run
   all_tables P one each =
@@ -118,25 +119,25 @@ module _ (server : ServeSetting) (targets : List Id) (r : Rows) (before after : 
       (All-cons (λ (x : TablePass). All P (mine x)) host.table (map (λ (k : Seeker). k.pass) (reverse seekers)) one
       (all_in_row (λ (k : Seeker). k.pass) seekers (λ (x : TablePass). All P (mine x)) each)))
 
-  pub ended_ran : Ran (suc (length targets)) before after
+  pub ended_ran : Ran (suc (length jobs)) before after
   unfolding seek_made
   ended_ran = record {
-    tables = sought server before targets ++ t.run;
-    tables_legal = sought_run server before targets t.run (subst (λ b. IsRun TableMay TableStep table_after b t.run) start t.legal);
-    tables_roles = All-append (λ (m : Made TableCall TableReply). m.role < suc (length targets)) (sought server before targets) t.run
-        (sought_all (λ (m : Made TableCall TableReply). m.role < suc (length targets)) server before targets (λ x. omega arith))
-        (all_tables (λ (m : Made TableCall TableReply). m.role < suc (length targets)) (mine_few (suc (length targets)) host.table (let d = back.driver in omega (arith, d)))
-        (λ k d lt. mine_few (suc (length targets)) (get_or seekers k d).pass (let role = role_at 1 seekers back.roles k d lt in omega (arith, role, lt, count))));
-    leaves = t.left ∙ ap (λ b. left_by table_after b t.run) start ∙ sym (sought_leaves server before targets t.run);
+    tables = sought server before jobs ++ t.run;
+    tables_legal = sought_run server before jobs t.run (subst (λ b. IsRun TableMay TableStep table_after b t.run) start t.legal);
+    tables_roles = All-append (λ (m : Made TableCall TableReply). m.role < suc (length jobs)) (sought server before jobs) t.run
+        (sought_all (λ (m : Made TableCall TableReply). m.role < suc (length jobs)) server before jobs (λ x. omega arith))
+        (all_tables (λ (m : Made TableCall TableReply). m.role < suc (length jobs)) (mine_few (suc (length jobs)) host.table (let d = back.driver in omega (arith, d)))
+        (λ k d lt. mine_few (suc (length jobs)) (get_or seekers k d).pass (let role = role_at 1 seekers back.roles k d lt in omega (arith, role, lt, count))));
+    leaves = t.left ∙ ap (λ b. left_by table_after b t.run) start ∙ sym (sought_leaves server before jobs t.run);
     stores = p.run;
     stores_legal = subst (λ b. IsRun PeersMay PeersStep peers_after b p.run) no_peers p.legal;
-    stores_roles = one_row PeersMay PeersStep peers_after r.stores r.peers_row host.peers held peers_calls p back.peers (suc (length targets)) (let d = back.driver_peers in omega (arith, d));
+    stores_roles = one_row PeersMay PeersStep peers_after r.stores r.peers_row host.peers held peers_calls p back.peers (suc (length jobs)) (let d = back.driver_peers in omega (arith, d));
     shelves = i.run;
     shelves_legal = subst (λ b. IsRun ItemMay ItemStep item_after b i.run) no_items i.legal;
-    shelves_roles = one_row ItemMay ItemStep item_after r.shelves r.items_row host.items shelf items_calls i back.items (suc (length targets)) (let d = back.driver_items in omega (arith, d));
+    shelves_roles = one_row ItemMay ItemStep item_after r.shelves r.items_row host.items shelf items_calls i back.items (suc (length jobs)) (let d = back.driver_items in omega (arith, d));
   }
 
-  pub ended_of_driver : AreOfDriver (suc (length targets)) before after ended_ran
+  pub ended_of_driver : AreOfDriver (suc (length jobs)) before after ended_ran
   unfolding ended_ran
   ended_of_driver = record {
     stores = subst (λ n. All (λ (m : Made PeerCall PeerReply). m.role ≡ n) p.run) back.driver_peers (role_of_one PeersMay PeersStep peers_after r.stores r.peers_row host.peers held peers_calls p back.peers);
@@ -144,38 +145,38 @@ module _ (server : ServeSetting) (targets : List Id) (r : Rows) (before after : 
   }
 
   -- the driver's calls
-  pub driver_calls_are : (did : List Did) → mine host.table ≡ flat_map (at_table 0) did → mine host.peers ≡ flat_map (at_peers 0) did → mine host.items ≡ flat_map (at_items 0) did → AreCalls (suc (length targets)) before after ended_ran 0 (map (seeks server before) targets ++ did)
+  pub driver_calls_are : (did : List Did) → mine host.table ≡ flat_map (at_table 0) did → mine host.peers ≡ flat_map (at_peers 0) did → mine host.items ≡ flat_map (at_items 0) did → AreCalls (suc (length jobs)) before after ended_ran 0 (map (seeks server before) jobs ++ did)
   unfolding ended_ran
   driver_calls_are did at_t at_p at_i = record {
-    tables = filter-append (λ (m : Made TableCall TableReply). m.role == 0) (sought server before targets) t.run
-        ∙ ap (λ l. l ++ calls_of 0 t.run) (sought_driver server before targets)
-        ∙ ap (λ l. flat_map (at_table 0) (map (seeks server before) targets) ++ l) (driver_at ∙ at_t)
-        ∙ sym (flat_map-append (at_table 0) (map (seeks server before) targets) did);
+    tables = filter-append (λ (m : Made TableCall TableReply). m.role == 0) (sought server before jobs) t.run
+        ∙ ap (λ l. l ++ calls_of 0 t.run) (sought_driver server before jobs)
+        ∙ ap (λ l. flat_map (at_table 0) (map (seeks server before) jobs) ++ l) (driver_at ∙ at_t)
+        ∙ sym (flat_map-append (at_table 0) (map (seeks server before) jobs) did);
     stores = ap (λ n. calls_of n p.run) (sym back.driver_peers) ∙ calls_of_one PeersMay PeersStep peers_after r.stores r.peers_row host.peers held peers_calls p back.peers ∙ at_p
-        ∙ sym (flat_map-append (at_peers 0) (map (seeks server before) targets) did ∙ ap (λ l. l ++ flat_map (at_peers 0) did) (no_peers_sought targets));
+        ∙ sym (flat_map-append (at_peers 0) (map (seeks server before) jobs) did ∙ ap (λ l. l ++ flat_map (at_peers 0) did) (no_peers_sought jobs));
     shelves = ap (λ n. calls_of n i.run) (sym back.driver_items) ∙ calls_of_one ItemMay ItemStep item_after r.shelves r.items_row host.items shelf items_calls i back.items ∙ at_i
-        ∙ sym (flat_map-append (at_items 0) (map (seeks server before) targets) did ∙ ap (λ l. l ++ flat_map (at_items 0) did) (no_items_sought targets));
+        ∙ sym (flat_map-append (at_items 0) (map (seeks server before) jobs) did ∙ ap (λ l. l ++ flat_map (at_items 0) did) (no_items_sought jobs));
   }
     where
       driver_at : calls_of 0 t.run ≡ mine host.table
       driver_at = ap (λ n. calls_of n t.run) (sym back.driver)
           ∙ All-head (λ (x : TablePass). calls_of x.role t.run ≡ mine x) host.table (map (λ (k : Seeker). k.pass) (reverse seekers)) (subst (All (λ (x : TablePass). calls_of x.role t.run ≡ mine x)) back.tables t.in_order)
 
-      no_peers_sought : (ts : List Id) → flat_map (at_peers 0) (map (seeks server before) ts) ≡ []
+      no_peers_sought : (ts : List Job) → flat_map (at_peers 0) (map (seeks server before) ts) ≡ []
       no_peers_sought [] = refl
       no_peers_sought (x ∷ ts) = no_peers_sought ts
 
-      no_items_sought : (ts : List Id) → flat_map (at_items 0) (map (seeks server before) ts) ≡ []
+      no_items_sought : (ts : List Job) → flat_map (at_items 0) (map (seeks server before) ts) ≡ []
       no_items_sought [] = refl
       no_items_sought (x ∷ ts) = no_items_sought ts
 
   -- those of a lookup
-  pub lookup_calls : (k : ℕ) (d : Seeker) → k < length targets → calls_of (suc k) (ended_ran).tables ≡ mine (get_or seekers k d).pass
+  pub lookup_calls : (k : ℕ) (d : Seeker) → k < length jobs → calls_of (suc k) (ended_ran).tables ≡ mine (get_or seekers k d).pass
   unfolding ended_ran
   lookup_calls k d lt =
       let there : k < length seekers = omega (arith, lt, count) in
-      filter-append (λ (m : Made TableCall TableReply). m.role == suc k) (sought server before targets) t.run
-      ∙ ap (λ l. l ++ calls_of (suc k) t.run) (sought_other server before targets k)
+      filter-append (λ (m : Made TableCall TableReply). m.role == suc k) (sought server before jobs) t.run
+      ∙ ap (λ l. l ++ calls_of (suc k) t.run) (sought_other server before jobs k)
       ∙ ap (λ n. calls_of n t.run) (sym (role_at 1 seekers back.roles k d there ∙ omega arith))
       ∙ each_in_row (λ (x : Seeker). x.pass) seekers (λ (x : TablePass). calls_of x.role t.run ≡ mine x)
       (All-tail (λ (x : TablePass). calls_of x.role t.run ≡ mine x) host.table (map (λ (x : Seeker). x.pass) (reverse seekers)) (subst (All (λ (x : TablePass). calls_of x.role t.run ≡ mine x)) back.tables t.in_order)) k d there
@@ -198,11 +199,11 @@ module _ (server : ServeSetting) (targets : List Id) (r : Rows) (before after : 
 
   pub ended_memory : All Remembers (mine host.table) → All (λ (k : Seeker). All (λ (m : Made TableCall TableReply). HasMemory m.reply) (mine k.pass)) seekers
       → All (λ (m : Made PeerCall PeerReply). HasRoom m.reply) (mine host.peers) → All (λ (m : Made ItemCall ItemReply). HasItemRoom m.reply) (mine host.items)
-      → HadAllMemory (suc (length targets)) before after ended_ran
+      → HadAllMemory (suc (length jobs)) before after ended_ran
   unfolding ended_ran seek_made
   ended_memory one each at_p at_i = record {
-    tables = All-append (λ (m : Made TableCall TableReply). HasMemory m.reply) (sought server before targets) t.run
-        (sought_all (λ (m : Made TableCall TableReply). HasMemory m.reply) server before targets (λ x. tt))
+    tables = All-append (λ (m : Made TableCall TableReply). HasMemory m.reply) (sought server before jobs) t.run
+        (sought_all (λ (m : Made TableCall TableReply). HasMemory m.reply) server before jobs (λ x. tt))
         (λ k d lt. all_tables Remembers one (λ j e there. All-weaker (λ (m : Made TableCall TableReply). HasMemory m.reply) Remembers (λ m h f. h) (mine (get_or seekers j e).pass) (each j e there)) k d lt (failed_has r.tables.start t.run t.legal k d lt));
     stores = all_of_one PeersMay PeersStep peers_after r.stores r.peers_row host.peers held peers_calls p back.peers (λ (m : Made PeerCall PeerReply). HasRoom m.reply) at_p;
     shelves = all_of_one ItemMay ItemStep item_after r.shelves r.items_row host.items shelf items_calls i back.items (λ (m : Made ItemCall ItemReply). HasItemRoom m.reply) at_i;

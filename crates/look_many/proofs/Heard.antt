@@ -1,24 +1,14 @@
 -- What a receive leaves of each lookup's queries and asks: no query more, and nobody asked; and that it adds what the driver adds.
-use Rattle.std.proofs.Common.{◌≡◌, ℕ, zero, suc, List, [], ◌∷◌, ◌++◌, get_or, set, Bool, true, false, cond, inl, inr, refl, sym, ap, subst, ◌∙◌}
-use Rattle.std.specs.Prelude.{Contains, map, filter, nat_lt}
+use Rattle.std.proofs.Common.{◌≡◌, ℕ, zero, suc, List, [], ◌∷◌, ◌++◌, get_or, set, refl, sym, ap, subst, ◌∙◌}
+use Rattle.std.specs.Prelude.{Contains, filter}
 use Rattle.std.specs.List.{AllZip}
 use Rattle.std.proofs.lemmas.List.{append-nil, append_assoc}
-use Rattle.std.proofs.lemmas.List.Concat.{flat_map-append}
-use Rattle.query_book.specs.declared.Query.{Query}
-use Rattle.claim_book.specs.declared.types.Cause.TheVariants.{WrongId, Error}
-use Rattle.claim_book.specs.declared.types.Entry.{Entry}
-use Rattle.claim_book.specs.declared.types.Entry.TheVariants.{Heard, Lost}
-use Rattle.claim_book.specs.Journal.{ask_of, asked}
+use Rattle.claim_book.specs.Journal.{asked}
 use Rattle.claim_book.specs.State.{BookState}
-use Rattle.lookup_core.specs.declared.quest.Quest.{Quest}
-use Rattle.lookup_core.specs.Reply.{Reply}
-use Rattle.lookup_core.specs.Reply as reply
-use Rattle.lookup_core.specs.Matching.{OpenQuery, ReplyGives}
 use Rattle.lookup_core.specs.Sealed.{Accepts}
 use Rattle.lookup_core.specs.SendFaults.{unsent}
-use Rattle.lookup_core.specs.Timeouts.{is_overdue, timed_out, closed_at}
+use Rattle.lookup_core.specs.Timeouts.{is_overdue, closed_at}
 use Rattle.lookup_core.specs.LookupSteps.{query_to}
-use Rattle.lookup_core.proofs.Lists.{in_cons, in_first, in_rest}
 use Rattle.lookup_core.proofs.Refusing.{unsent_late, unsent_replied}
 use Rattle.kad_base.specs.declared.types.Addr.{Addr}
 use Rattle.look_many.specs.declared.seeker.Seeker.{Seeker}

@@ -97,6 +97,7 @@ losses_closed (q ∷ qs) = ap (λ l. q.contact ∷ l) (losses_closed qs)
 pub record ExpiringBy (at : ℕ) (old now : Seeker) (h g : Hands) : Type 0 where
   pub one : ExpiringOne at old.lookup now.lookup
   pub quest : now.quest ≡ old.quest
+  pub gathered : now.gathered ≡ old.gathered
   pub seat : SameSeat old now
   pub same : SameHands h g
   pub ran : Ran h g [] (flat_map loss_of (lost_so_far at old.lookup now.lookup one))
@@ -105,6 +106,7 @@ pub expires_none : (at : ℕ) (k : Seeker) (h : Hands) → Holding k → Expirin
 expires_none at k h holds = record {
   one = none_expired at k.lookup holds;
   quest = refl;
+  gathered = refl;
   seat = refl;
   same = same_none h;
   ran = subst (λ l. Ran h h [] (flat_map loss_of l)) (sym (none_lost at k.lookup holds)) (ran_none h);
@@ -117,6 +119,7 @@ expires_one at c old now after h g k x loses same told =
     record {
       one = more.expiring;
       quest = x.quest;
+      gathered = x.gathered;
       seat = x.seat;
       same = same_more h g k x.same same;
       ran = subst (λ l. Ran h k [] (flat_map loss_of l)) (sym more.lost) (subst (Ran h k []) (sym (flat_map-append loss_of so_far (Lost more.path c Timeout ∷ [])))
@@ -124,7 +127,7 @@ expires_one at c old now after h g k x loses same told =
     }
 
 pub expires_all : (at : ℕ) (old now : Seeker) (h g : Hands) → ExpiringBy at old now h g → All (λ (q : Query). at < q.deadline) now.lookup.queries → Expires at old now
-expires_all at old now h g x none = record { loses = all_expired at old.lookup now.lookup x.one none; quest = x.quest; holds = x.one.holds; seat = x.seat }
+expires_all at old now h g x none = record { loses = all_expired at old.lookup now.lookup x.one none; quest = x.quest; gathered = x.gathered; holds = x.one.holds; seat = x.seat }
 
 pub expires_ran : (at : ℕ) (old now : Seeker) (h g : Hands) → ExpiringBy at old now h g → All (λ (q : Query). at < q.deadline) now.lookup.queries → Ran h g [] (lapsed at old)
 expires_ran at old now h g x none =

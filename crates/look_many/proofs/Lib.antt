@@ -13,6 +13,8 @@ pub mod Rounding
 pub mod Asking
 pub mod AskingAll
 pub mod ServingOn
+pub mod Tagging
+pub mod Following
 pub mod Whole
 pub mod Seating
 pub mod Ending
@@ -27,3 +29,4 @@ pub mod Wholly
 pub mod Starting
 pub mod Back
 pub mod Promised
+pub mod Planning

@@ -16,6 +16,7 @@ use Rattle.claim_book.specs.declared.types.Entry.TheVariants.{Seed, Ask, Heard, 
 use Rattle.claim_book.specs.Journal.{seed_of, seeds}
 use Rattle.serve_crew.specs.Hands.{SamePass}
 use Rattle.lookup_core.proofs.Received.{seeds_append}
+use Rattle.lookup_core.specs.declared.quest.Quest.{Quest}
 use Rattle.look_many.specs.declared.seeker.Seeker.{Seeker}
 use Rattle.look_many.specs.Mine.{is_driven, driven}
 use Rattle.look_many.specs.ManyLooked.{note_of, noted}
@@ -73,7 +74,7 @@ pub same_pass : (old new : Seeker) → SameSeat old new → SamePass old.pass ne
 same_pass old new e = record { turn = ap (λ (p : PassState TableCall TableReply). p.turn) e; role = ap (λ (p : PassState TableCall TableReply). p.role) e }
 
 pub lives_driven : (old new : Seeker) → Longer old new → DrivenOn old new → SameSeat old new → Lives old new
-lives_driven old new l d seat = record { quest = l.quest; setting = l.setting; more = d.more; journal = d.journal; no_seeds = driven_seeds d.more d.all_driven; same = same_pass old new seat }
+lives_driven old new l d seat = record { quest = l.quest; setting = l.setting; more = d.more; journal = d.journal; no_seeds = driven_seeds d.more d.all_driven; gathered = l.gathered; same = same_pass old new seat }
 
 pub goes_driven : (old new : Seeker) → Longer old new → DrivenOn old new → SameSeat old new → Goes old new
 unfolding lives_driven
@@ -86,7 +87,7 @@ goes_driven old new l d seat = record {
 }
 
 pub lives_settled : (old new : Seeker) → SettlesSome old new → Lives old new
-lives_settled old new s = record { quest = s.quest; setting = s.setting; more = s.more; journal = s.journal; no_seeds = s.no_seeds; same = s.same }
+lives_settled old new s = record { quest = s.quest; setting = s.setting; more = s.more; journal = s.journal; no_seeds = s.no_seeds; gathered = λ is. s.gathered; same = s.same }
 
 pub goes_settled : (old new : Seeker) → SettlesWhole old new → Goes old new
 unfolding lives_settled
@@ -94,7 +95,7 @@ goes_settled old new s = record { lives = lives_settled old new s.some; told = s
 
 pub lives_same : (k : Seeker) → Lives k k
 unfolding seeds
-lives_same k = record { quest = refl; setting = refl; more = []; journal = sym (append-nil k.lookup.book.journal); no_seeds = refl; same = record { turn = refl; role = refl } }
+lives_same k = record { quest = refl; setting = refl; more = []; journal = sym (append-nil k.lookup.book.journal); no_seeds = refl; gathered = λ is. refl; same = record { turn = refl; role = refl } }
 
 pub goes_same : (k : Seeker) → Goes k k
 unfolding lives_same
@@ -107,6 +108,7 @@ lives_then a b c g h = record {
   more = g.more ++ h.more;
   journal = h.journal ∙ ap (λ J. J ++ h.more) g.journal ∙ append_assoc a.lookup.book.journal g.more h.more;
   no_seeds = no_seeds_both g.more h.more g.no_seeds h.no_seeds;
+  gathered = λ is. h.gathered (ap (λ (q : Quest). q.kind) g.quest ∙ is) ∙ g.gathered is;
   same = record { turn = h.same.turn ∙ g.same.turn; role = h.same.role ∙ g.same.role };
 }
 

@@ -1,8 +1,8 @@
 -- Whom all lookups lose to refused sends, and what their link counts of it.
-use Rattle.std.proofs.Common.{◌≡◌, ℕ, zero, suc, ◌+◌, ◌<◌, ◌≤◌, List, [], ◌∷◌, ◌++◌, length, get_or, set, inl, refl, sym, ap, subst, ◌∙◌, arith}
+use Rattle.std.proofs.Common.{◌≡◌, ℕ, zero, suc, ◌+◌, ◌<◌, ◌≤◌, List, [], ◌∷◌, length, get_or, set, inl, refl, sym, ap, subst, ◌∙◌, arith}
 use Rattle.std.specs.Prelude.{map}
 use Rattle.std.specs.List.{AllZip}
-use Rattle.kad_base.specs.declared.types.Id.{Id}
+use Rattle.look_many.specs.declared.job.Job.{Job}
 use Rattle.contact_table.specs.TableState.{TableState}
 use Rattle.lookup_core.specs.SendFaults.{unsent, IsCounted, Refuses}
 use Rattle.lookup_core.proofs.Refusing.{both_counted, unsent_quiet, unsent_seeded}
@@ -71,7 +71,7 @@ lost_still olds news same = lost_is news ∙ ap lost_by same ∙ sym (lost_is ol
 
 -- ---- from where they begin to what they found
 
-fresh_lost : (server : ServeSetting) (setting : ManySetting) (table : TableState) (targets : List Id) (ks : List Seeker) → AllZip (IsSeekerFor server setting table) targets ks → lost_of ks ≡ 0
+fresh_lost : (server : ServeSetting) (setting : ManySetting) (table : TableState) (jobs : List Job) (ks : List Seeker) → AllZip (IsSeekerFor server setting table) jobs ks → lost_of ks ≡ 0
 fresh_lost server setting table [] [] h = refl
 fresh_lost server setting table [] (k ∷ ks) h = absurd h
 fresh_lost server setting table (t ∷ ts) [] h = absurd h
@@ -89,9 +89,9 @@ found_lost (k ∷ ks) (o ∷ ones) h =
     let rest = found_lost ks ones h.1 in
     omega (arith, one, rest)
 
-pub counts_unsent : (server : ServeSetting) (setting : ManySetting) (table : TableState) (targets : List Id) (olds news : List Seeker) (ones : List One) (a b c : ℕ) → AllZip (IsSeekerFor server setting table) targets olds → b ≡ a → LosesMore olds news b c → AllZip (λ k one. IsDone k.lookup.book one) news ones → CountsUnsent (journals_of ones) a c
-counts_unsent server setting table targets olds news ones a b c begins same loses done =
-    let none = fresh_lost server setting table targets olds begins in
+pub counts_unsent : (server : ServeSetting) (setting : ManySetting) (table : TableState) (jobs : List Job) (olds news : List Seeker) (ones : List One) (a b c : ℕ) → AllZip (IsSeekerFor server setting table) jobs olds → b ≡ a → LosesMore olds news b c → AllZip (λ k one. IsDone k.lookup.book one) news ones → CountsUnsent (journals_of ones) a c
+counts_unsent server setting table jobs olds news ones a b c begins same loses done =
+    let none = fresh_lost server setting table jobs olds begins in
     let more = loses.more in
     let found = found_lost news ones done in
     let number : loses.number ≡ unsent_in_all (journals_of ones) = omega (arith, none, more, found) in

@@ -1,29 +1,28 @@
 -- One lookup at one receive: what its own events show goes with what it keeps.
-use Rattle.std.proofs.Common.{◌≡◌, ℕ, List, [], ◌∷◌, ◌++◌, Bool, true, false, not, ◌||◌, cond, inl, inr, refl, sym, ap, subst, ◌∙◌}
+use Rattle.std.proofs.Common.{◌≡◌, ℕ, List, [], ◌∷◌, ◌++◌, true, refl, sym, ap, subst, ◌∙◌}
 use Rattle.std.specs.Prelude.{Contains, map, filter, nat_lt}
 use Rattle.std.proofs.lemmas.List.{append-nil, append_assoc}
-use Rattle.std.proofs.lemmas.List.Elements.{filter-append}
 use Rattle.kad_base.specs.declared.types.Addr.{Addr}
 use Rattle.kad_base.specs.declared.types.Contact.{Contact}
-use Rattle.kad_base.specs.Contacts.{same, among}
+use Rattle.kad_base.specs.Contacts.{among}
 use Rattle.query_book.specs.declared.Query.{Query}
-use Rattle.claim_book.specs.declared.types.Cause.TheVariants.{WrongId, Error}
 use Rattle.claim_book.specs.declared.types.Entry.{Entry}
-use Rattle.claim_book.specs.declared.types.Entry.TheVariants.{Heard, Lost}
 use Rattle.claim_book.specs.Journal.{asked}
 use Rattle.claim_book.specs.State.{BookState}
+use Rattle.lookup_core.specs.declared.quest.AskKind.TheVariants.{FindNode}
 use Rattle.lookup_core.specs.declared.quest.Quest.{Quest}
-use Rattle.lookup_core.specs.Reply.{Reply}
-use Rattle.lookup_core.specs.Reply as reply
-use Rattle.lookup_core.specs.Matching.{OpenQuery, Replies, ReplyGives, IsStray}
+use Rattle.lookup_core.specs.Gathered.{HearsOne, Keeping}
+use Rattle.lookup_core.specs.Reply.{Answered}
+use Rattle.lookup_core.specs.Matching.{OpenQuery, Replies, IsStray}
 use Rattle.lookup_core.specs.Sealed.{Accepts}
-use Rattle.lookup_core.specs.Timeouts.{is_overdue, timed_out, closed_at, open_at}
+use Rattle.lookup_core.specs.Timeouts.{is_overdue, closed_at}
 use Rattle.lookup_core.specs.LookupSteps.{as_open, query_to}
+use Rattle.lookup_core.proofs.Gathering.{kept_find, keeping_more, match_heard}
 use Rattle.lookup_core.proofs.Lists.{map_append, in_map}
 use Rattle.lookup_core.proofs.Opens.{opens_kept, each_asked}
 use Rattle.lookup_core.proofs.Received.{open_still, among_still, none_driven, driven_closed, driven_append, reply_driven, gives_of, among_dropped}
 use Rattle.look_many.specs.declared.seeker.Seeker.{Seeker}
-use Rattle.look_many.specs.Mine.{Mine, is_driven, driven, MatchGives, received, waited}
+use Rattle.look_many.specs.Mine.{Mine, driven, MatchGives, received, waited}
 use Rattle.look_many.specs.inner.Crowd.{opens, Holding, Longer, KeepsMine}
 use Rattle.look_many.specs.inner.ManySteps.{IsMatchFor, IsNotFor, Expires, lapsed}
 
@@ -39,10 +38,10 @@ pub record OneOn (at : ℕ) (old mid new : Seeker) (n : Mine) : Type 0 where
   pub longer : Longer old new
   pub lost : n.lost ≡ lapsed at mid
 
--- the entries `first`, and then those of the queries `left` that are overdue
-one_on : (at : ℕ) (old mid new : Seeker) (m : Mine) (first : List Entry) (left : List Query) → KeepsMine old m → driven first ≡ first → mid.quest ≡ old.quest → mid.lookup.book.setting ≡ old.lookup.book.setting → mid.lookup.book.journal ≡ old.lookup.book.journal ++ first → mid.lookup.queries ≡ left
-    → ((c : Contact) → among (map (λ (q : Query). q.contact) left) c ≡ true → among (asked old.lookup.book.journal) c ≡ true) → Expires at mid new → OneOn at old mid new (received m at first (map (as_open old.lookup.book.journal) left))
-one_on at old mid new m first left keeps all_driven quest setting journal queries asks expires =
+-- the entries `first`, and then those of the queries `left` that are overdue; and what was heard so far is kept
+one_on : (at : ℕ) (old mid new : Seeker) (m : Mine) (first : List Entry) (left : List Query) (heard : List Answered) → KeepsMine old m → Keeping old.quest.kind heard mid.gathered → (old.quest.kind ≡ FindNode → mid.gathered ≡ old.gathered) → driven first ≡ first → mid.quest ≡ old.quest → mid.lookup.book.setting ≡ old.lookup.book.setting → mid.lookup.book.journal ≡ old.lookup.book.journal ++ first → mid.lookup.queries ≡ left
+    → ((c : Contact) → among (map (λ (q : Query). q.contact) left) c ≡ true → among (asked old.lookup.book.journal) c ≡ true) → Expires at mid new → OneOn at old mid new (record (received m at first (map (as_open old.lookup.book.journal) left)) { heard = heard })
+one_on at old mid new m first left heard keeps keeping bare all_driven quest setting journal queries asks expires =
     let J = old.lookup.book.journal in
     let J' = new.lookup.book.journal in
     let e = expires.loses in
@@ -59,8 +58,9 @@ one_on at old mid new m first left keeps all_driven quest setting journal querie
       keeps = record {
         queries = open_still at J left ∙ ap (map (as_open J)) (sym queries') ∙ sym paths;
         given = ap (λ l. l ++ more) keeps.given ∙ sym (ap driven journal' ∙ driven_append J more ∙ ap (λ l. driven J ++ l) (driven_append first closed ∙ ap (λ l. l ++ driven closed) all_driven ∙ ap (λ l. first ++ l) closed_driven));
+        gathered = subst (λ (q : Quest). Keeping q.kind heard new.gathered) (sym (expires.quest ∙ quest)) (subst (Keeping old.quest.kind heard) (sym expires.gathered) keeping);
       };
-      longer = record { more = more; quest = expires.quest ∙ quest; setting = e.setting ∙ setting; journal = journal' };
+      longer = record { more = more; quest = expires.quest ∙ quest; setting = e.setting ∙ setting; journal = journal'; gathered = λ is. expires.gathered ∙ bare is };
       lost = ap (λ l. map (λ (q : OpenQuery). q.contact) (filter (is_overdue at) l)) (sym same_opens);
     }
 
@@ -68,7 +68,7 @@ one_on at old mid new m first left keeps all_driven quest setting journal querie
 pub waits_on : (at : ℕ) (old new : Seeker) (m : Mine) → Holding old → KeepsMine old m → Expires at old new → OneOn at old old new (waited at m)
 waits_on at old new m holds keeps e =
     subst (λ qs. OneOn at old old new (received m at [] qs)) (sym keeps.queries)
-    (one_on at old old new m [] old.lookup.queries keeps none_driven refl refl (sym (append-nil old.lookup.book.journal)) refl (each_asked old.lookup.book.journal old.lookup.queries holds.is_open) e)
+    (one_on at old old new m [] old.lookup.queries m.heard keeps keeps.gathered (λ is. refl) none_driven refl refl (sym (append-nil old.lookup.book.journal)) refl (each_asked old.lookup.book.journal old.lookup.queries holds.is_open) e)
 
 -- the datagram is no reply to it
 pub stray_for : (accepts : Accepts) (k : Seeker) (m : Mine) (from : Addr) (bytes : List ℕ) → KeepsMine k m → IsNotFor accepts from bytes k → IsStray k.quest accepts m.queries from bytes
@@ -89,7 +89,7 @@ matches_on accepts from bytes at old mid new m holds keeps is_match e =
     let entry = h.hears.entry in
     let left = h.before ++ h.behind in
     record {
-      after = received m at (entry ∷ []) (map (as_open J) left);
+      after = record (received m at (entry ∷ []) (map (as_open J) left)) { heard = m.heard ++ is_match.heard };
       gives = record {
         entry = entry;
         left = map (as_open J) left;
@@ -103,9 +103,11 @@ matches_on accepts from bytes at old mid new m holds keeps is_match e =
           entry = gives_of old.quest J h.query h.what entry h.hears.gives;
           closes = map_append (as_open J) h.before h.behind;
         };
+        found = is_match.heard;
+        hears = subst (λ qs. HearsOne old.quest accepts qs from bytes is_match.heard) (sym keeps.queries) (match_heard old.quest accepts from bytes old.lookup mid.lookup is_match.heard holds h);
         after = refl;
       };
-      on = one_on at old mid new m (entry ∷ []) left keeps (reply_driven old.quest (query_to J h.query.contact) h.what entry h.hears.gives) is_match.quest (ap (λ (b : BookState). b.setting) h.hears.after) (ap (λ (b : BookState). b.journal) h.hears.after) h.closes
+      on = one_on at old mid new m (entry ∷ []) left (m.heard ++ is_match.heard) keeps (keeping_more old.quest.kind m.heard is_match.heard old.gathered mid.gathered keeps.gathered is_match.gathers) (λ is. kept_find old.quest.kind is_match.heard old.gathered mid.gathered is is_match.gathers) (reply_driven old.quest (query_to J h.query.contact) h.what entry h.hears.gives) is_match.quest (ap (λ (b : BookState). b.setting) h.hears.after) (ap (λ (b : BookState). b.journal) h.hears.after) h.closes
           (λ c x. each_asked J old.lookup.queries holds.is_open c (subst (λ qs. among (map (λ (q : Query). q.contact) qs) c ≡ true) (sym h.was_open) (among_dropped h.before h.query h.behind c x)))
           e;
     }

@@ -1,5 +1,5 @@
 -- The receives of a round of all lookups, one after another.
-use Rattle.std.proofs.Common.{◌≡◌, ◌≢◌, ◌⊎◌, ℕ, zero, suc, ◌+◌, ◌-◌, ◌<◌, ◌≤◌, List, [], ◌∷◌, ◌++◌, Option, None, Bool, true, inl, inr, refl, sym, ap, subst, ◌∙◌, arith}
+use Rattle.std.proofs.Common.{◌≡◌, ◌≢◌, ◌⊎◌, ℕ, zero, suc, ◌+◌, ◌-◌, ◌<◌, ◌≤◌, List, [], ◌∷◌, ◌++◌, Option, None, Bool, true, false, inl, inr, refl, sym, ap, subst, ◌∙◌, arith}
 use Rattle.std.specs.Prelude.{map}
 use Rattle.std.specs.List.{AllByRecursion, AllZip}
 use Rattle.std.proofs.lemmas.List.{append_assoc}
@@ -12,11 +12,12 @@ use Rattle.node_serve.specs.declared.setting.ServeSetting.{ServeSetting}
 use Rattle.node_serve.specs.Sealing.{Tags}
 use Rattle.serve_crew.specs.Hands.{Hands, SameHands}
 use Rattle.serve_crew.proofs.Growing.{same_none, same_more}
+use Rattle.lookup_core.specs.declared.quest.Quest.{Quest}
 use Rattle.look_many.specs.declared.seeker.Seeker.{Seeker}
 use Rattle.look_many.specs.declared.seeker.Progress.{Progress}
 use Rattle.look_many.specs.declared.seeker.ManyFault.{ManyFault}
 use Rattle.look_many.specs.Many.{nothing_read, and_then, WaitsUntil}
-use Rattle.look_many.specs.inner.Crowd.{IsLegal, Longer, DrivenOn, SameSeat, queries_of, ManyShow, Stand, Advances}
+use Rattle.look_many.specs.inner.Crowd.{whose, IsLegal, Longer, DrivenOn, SameSeat, queries_of, ManyShow, Stand, Advances}
 use Rattle.look_many.specs.inner.ManySteps.{for_replies, MayReceive, MayAwait, Received, ReceivedAll, Stops, EndsByForeign, RanOn, EndsEarly, EndsLast}
 use Rattle.look_many.proofs.Heard.{all_then, same_driven, driven_then, same_seats, seats_then}
 use Rattle.look_many.proofs.Hosting.{ran_none, ran_then}
@@ -45,6 +46,7 @@ longer_one a b c g h = record {
   quest = h.quest ∙ g.quest;
   setting = h.setting ∙ g.setting;
   journal = h.journal ∙ ap (λ J. J ++ h.more) g.journal ∙ append_assoc a.lookup.book.journal g.more h.more;
+  gathered = λ is. h.gathered (ap (λ (q : Quest). q.kind) g.quest ∙ is) ∙ g.gathered is;
 }
 
 pub longer_then : (olds mids news : List Seeker) → AllZip Longer olds mids → AllZip Longer mids news → AllZip Longer olds news
@@ -65,6 +67,7 @@ pub advances_none : (busy : Bool) (accepts : Accepts) (tags : Tags) (server : Se
 advances_none busy accepts tags server s = record {
   more = nothing_read;
   owners_are = refl;
+  none_told = refl;
   goes = λ f count read began is h. subst (λ r. Grows began s.told (λ events. ManyShow busy f count s.seekers s.progress s.words.place None r events)) (sym (nothing_after read)) h;
   ran = ran_none s.host;
   seed = refl;
@@ -74,6 +77,7 @@ pub advances_then : (busy : Bool) (m n : List ℕ) (accepts : Accepts) (tags : T
 advances_then busy m n accepts tags server a b c same g h = record {
   more = and_then g.more h.more;
   owners_are = ap (λ l. l ++ h.more.owners) g.owners_are ∙ ap (λ l. m ++ l) h.owners_are;
+  none_told = ap (λ l. l ++ h.more.told) g.none_told ∙ h.none_told;
   goes = λ f count read began is x.
       subst (λ r. Grows began c.told (λ events. ManyShow busy f count c.seekers c.progress c.words.place None r events)) (then_assoc read g.more h.more)
       (h.goes f count (and_then read g.more) began (record { accepts_is = is.accepts_is; tags_is = is.tags_is; server_is = is.server_is; seed_is = is.seed_is ∙ sym g.seed }) (g.goes f count read began is x));
@@ -89,10 +93,10 @@ pub record Stays (old new : List Seeker) : Type 0 where
   pub driven_on : AllZip DrivenOn old new
   pub seats : AllZip SameSeat old new
 
-stays_none : (ks : List Seeker) → Stays ks ks
+pub stays_none : (ks : List Seeker) → Stays ks ks
 stays_none ks = record { longer = all_longer ks; driven_on = same_driven ks; seats = same_seats ks }
 
-stays_then : (olds mids news : List Seeker) → Stays olds mids → Stays mids news → Stays olds news
+pub stays_then : (olds mids news : List Seeker) → Stays olds mids → Stays mids news → Stays olds news
 stays_then olds mids news g h = record { longer = longer_then olds mids news g.longer h.longer; driven_on = driven_then olds mids news g.driven_on h.driven_on; seats = seats_then olds mids news g.seats h.seats }
 
 -- after receives of a round
@@ -102,17 +106,17 @@ stays_received old new progress progress' r = record { longer = r.longer; driven
 pub ends_now : (busy : Bool) (fault : ManyFault) (accepts : Accepts) (tags : Tags) (server : ServeSetting) (s : Stand) (host' : Hands) (told' : Option (List Event)) → AllByRecursion IsLegal s.seekers → Stops busy fault accepts tags server s told' → RanOn s.host host' → EndsEarly busy fault accepts tags server s host' told'
 ends_now busy fault accepts tags server s host' told' legal stops ran =
     let k = stays_none s.seekers in
-    record { last = s; advances = advances_none busy accepts tags server s; same = same_none s.host; legal = legal; longer = k.longer; driven_on = k.driven_on; seats = k.seats; stops = stops; ran_on = ran }
+    record { last = s; advances = advances_none busy accepts tags server s; same = same_none s.host; legal = legal; longer = k.longer; driven_on = k.driven_on; seats = k.seats; same_whose = λ idle. refl; same_gathered = λ idle. refl; stops = stops; ran_on = ran }
 
 pub ends_last_now : (accepts : Accepts) (tags : Tags) (server : ServeSetting) (s : Stand) (host' : Hands) (told' : Option (List Event)) → AllByRecursion IsLegal s.seekers → EndsByForeign true accepts tags server s told' → RanOn s.host host' → EndsLast accepts tags server s host' told'
 ends_last_now accepts tags server s host' told' legal ends ran =
     let k = stays_none s.seekers in
     record { last = s; advances = advances_none true accepts tags server s; same = same_none s.host; legal = legal; longer = k.longer; driven_on = k.driven_on; seats = k.seats; ends = ends; ran_on = ran }
 
-pub ends_after : (busy : Bool) (fault : ManyFault) (accepts : Accepts) (tags : Tags) (server : ServeSetting) (s t : Stand) (host' : Hands) (told' : Option (List Event)) → SameHands s.host t.host → Stays s.seekers t.seekers → Advances busy [] accepts tags server s t → EndsEarly busy fault accepts tags server t host' told' → EndsEarly busy fault accepts tags server s host' told'
-ends_after busy fault accepts tags server s t host' told' same stays a e =
+pub ends_after : (busy : Bool) (fault : ManyFault) (accepts : Accepts) (tags : Tags) (server : ServeSetting) (s t : Stand) (host' : Hands) (told' : Option (List Event)) → SameHands s.host t.host → Stays s.seekers t.seekers → (busy ≡ false → map whose t.seekers ≡ map whose s.seekers) → (busy ≡ false → map (λ (k : Seeker). k.gathered) t.seekers ≡ map (λ (k : Seeker). k.gathered) s.seekers) → Advances busy [] accepts tags server s t → EndsEarly busy fault accepts tags server t host' told' → EndsEarly busy fault accepts tags server s host' told'
+ends_after busy fault accepts tags server s t host' told' same stays journals gathered a e =
     let k = stays_then s.seekers t.seekers e.last.seekers stays (record { longer = e.longer; driven_on = e.driven_on; seats = e.seats }) in
-    record { last = e.last; advances = advances_then busy [] [] accepts tags server s t e.last same a e.advances; same = same_more s.host t.host e.last.host same e.same; legal = e.legal; longer = k.longer; driven_on = k.driven_on; seats = k.seats; stops = e.stops; ran_on = e.ran_on }
+    record { last = e.last; advances = advances_then busy [] [] accepts tags server s t e.last same a e.advances; same = same_more s.host t.host e.last.host same e.same; legal = e.legal; longer = k.longer; driven_on = k.driven_on; seats = k.seats; same_whose = λ idle. e.same_whose idle ∙ journals idle; same_gathered = λ idle. e.same_gathered idle ∙ gathered idle; stops = e.stops; ran_on = e.ran_on }
 
 pub ends_last_after : (accepts : Accepts) (tags : Tags) (server : ServeSetting) (s t : Stand) (host' : Hands) (told' : Option (List Event)) → SameHands s.host t.host → Stays s.seekers t.seekers → Advances true [] accepts tags server s t → EndsLast accepts tags server t host' told' → EndsLast accepts tags server s host' told'
 ends_last_after accepts tags server s t host' told' same stays a e =

@@ -6,7 +6,7 @@ use Rattle.std.proofs.lemmas.List.{append_assoc, reverse-append}
 use Rattle.std.proofs.lemmas.List.FromFn.{length-map-range_with_len}
 use Rattle.std.specs.List.{All}
 use Rattle.std.specs.List.Sorted.{IsStrictlySortedBy}
-use Rattle.kad_base.specs.declared.types.Id.{Id}
+use Rattle.look_many.specs.declared.job.Job.{Job}
 use Rattle.kad_base.specs.declared.types.Contact.{Contact}
 use Rattle.kad_base.specs.Contacts.{IsUsable}
 use Rattle.kad_distance.specs.Order.{closeness}
@@ -20,16 +20,20 @@ use Rattle.claim_book.specs.State.{BookState}
 use Rattle.contact_table.specs.TableState.{TableState}
 use Rattle.contact_table.specs.TableStep.{contacts_of}
 use Rattle.node_serve.specs.declared.setting.ServeSetting.{ServeSetting}
+use Rattle.look_many.specs.declared.finish.Done.{Done}
 use Rattle.look_many.specs.declared.found.ManySetting.{ManySetting}
 use Rattle.look_many.specs.declared.found.One.{One}
 use Rattle.kad_base.specs.declared.types.NoMemory.{NoMemory}
 use Rattle.turn_book.specs.Turns.{PassState}
 use Rattle.contact_table.specs.declared.calls.TableCall.{TableCall}
 use Rattle.contact_table.specs.declared.calls.TableReply.{TableReply}
+use Rattle.lookup_core.specs.declared.gather.Gathered.{Gathered}
 use Rattle.lookup_core.specs.declared.quest.Quest.{Quest}
+use Rattle.lookup_core.specs.Gathered.{IsBare}
 use Rattle.lookup_core.specs.declared.state.Lookup.{Lookup}
-use Rattle.look_many.specs.ManyLooked.{setting_for, quest_for, seeds_for}
-use Rattle.look_many.specs.inner.Seats.{IsBookFor, IsSeekerFor, IsDone, IsOverBook}
+use Rattle.look_many.specs.Job.{target_of}
+use Rattle.look_many.specs.ManyLooked.{AreSent, how_often, setting_for, quest_for, seeds_for}
+use Rattle.look_many.specs.inner.Seats.{IsBookFor, IsSeekerFor, IsDone, IsHanded, IsOutcome, IsOverBook}
 
 -- ---- lists in step
 
@@ -48,17 +52,17 @@ module _ {A B : Type 0} (R : A → B → Type 0) where
 
 -- ---- the seeds of a lookup
 
-few_of : (server : ServeSetting) (table : TableState) (target : Id) → length (seeds_for server table target) ≤ server.k
-few_of server table target = closest_few target server.k (contacts_of table)
+few_of : (server : ServeSetting) (table : TableState) (job : Job) → length (seeds_for server table job) ≤ server.k
+few_of server table job = closest_few (target_of job) server.k (contacts_of table)
 
-pub few_seeds : (server : ServeSetting) (setting : ManySetting) (table : TableState) (target : Id) (xs : List Contact) (s : Setting) → xs ≡ seeds_for server table target → s ≡ setting_for server setting target → length xs ≤ s.k
-few_seeds server setting table target xs s is set = (let few = few_of server table target in let n = ap length is in let k = ap (λ (x : Setting). x.k) set in omega (arith, few, n, k))
+pub few_seeds : (server : ServeSetting) (setting : ManySetting) (table : TableState) (job : Job) (xs : List Contact) (s : Setting) → xs ≡ seeds_for server table job → s ≡ setting_for server setting job → length xs ≤ s.k
+few_seeds server setting table job xs s is set = (let few = few_of server table job in let n = ap length is in let k = ap (λ (x : Setting). x.k) set in omega (arith, few, n, k))
 
-pub ordered_seeds : (server : ServeSetting) (setting : ManySetting) (table : TableState) (target : Id) (xs : List Contact) (s : Setting) → xs ≡ seeds_for server table target → s ≡ setting_for server setting target → IsStrictlySortedBy (closeness s.target) xs
-ordered_seeds server setting table target xs s is set = subst (λ (x : Setting). IsStrictlySortedBy (closeness x.target) xs) (sym set) (subst (IsStrictlySortedBy (closeness target)) (sym is) (closest_rises target server.k (contacts_of table)))
+pub ordered_seeds : (server : ServeSetting) (setting : ManySetting) (table : TableState) (job : Job) (xs : List Contact) (s : Setting) → xs ≡ seeds_for server table job → s ≡ setting_for server setting job → IsStrictlySortedBy (closeness s.target) xs
+ordered_seeds server setting table job xs s is set = subst (λ (x : Setting). IsStrictlySortedBy (closeness x.target) xs) (sym set) (subst (IsStrictlySortedBy (closeness (target_of job))) (sym is) (closest_rises (target_of job) server.k (contacts_of table)))
 
-pub all_usable : (server : ServeSetting) (setting : ManySetting) (table : TableState) (target : Id) (xs : List Contact) (s : Setting) → All (IsUsable server.own) (contacts_of table) → xs ≡ seeds_for server table target → s ≡ setting_for server setting target → All (IsUsable s.own) xs
-all_usable server setting table target xs s usable is set = subst (λ (x : Setting). All (IsUsable x.own) xs) (sym set) (subst (All (IsUsable server.own)) (sym is) (closest_all target server.k (contacts_of table) (IsUsable server.own) usable))
+pub all_usable : (server : ServeSetting) (setting : ManySetting) (table : TableState) (job : Job) (xs : List Contact) (s : Setting) → All (IsUsable server.own) (contacts_of table) → xs ≡ seeds_for server table job → s ≡ setting_for server setting job → All (IsUsable s.own) xs
+all_usable server setting table job xs s usable is set = subst (λ (x : Setting). All (IsUsable x.own) xs) (sym set) (subst (All (IsUsable server.own)) (sym is) (closest_all (target_of job) server.k (contacts_of table) (IsUsable server.own) usable))
 
 -- ---- the end of a lookup
 
@@ -73,12 +77,15 @@ is_done book after o same found journal legal =
       counted = subst (λ J. Counted J o.counts) (sym is) found.counted;
     }
 
--- of the books that there were, these were finished, and the others are left
-pub record Finishing (all left : List BookState) (ones : List One) : Type 0 where
-  pub done : List BookState
+pub is_outcome : (d : Done) (after : BookState) (o : One) → after ≡ d.book → book_found d.book.setting d.book.journal o.found o.counts → o.journal ≡ after.journal → Legal after.setting after.journal → IsHanded d.gathered o → IsOutcome d o
+is_outcome d after o same found journal legal handed = record { found = is_done d.book after o same found journal legal; handed = handed }
+
+-- of what was left of all lookups, these were finished, and the others are not yet
+pub record Finishing (all left : List Done) (ones : List One) : Type 0 where
+  pub done : List Done
   pub are : reverse all ≡ done ++ reverse left
-  pub found : AllZip IsDone done ones
-  pub over : AllByRecursion IsOverBook (reverse left)
+  pub found : AllZip IsOutcome done ones
+  pub over : AllByRecursion (λ (d : Done). IsOverBook d.book) (reverse left)
 
 -- ---- one after another
 
@@ -114,21 +121,38 @@ module _ {B : Type 0} (f : ℕ → B) where
       rest h = cc
 
 -- a lookup that is made of its book
-pub seeker_for : (server : ServeSetting) (setting : ManySetting) (table : TableState) (target : Id) (book : BookState) (quest : Quest) (lookup : Lookup) (pass : PassState TableCall TableReply) (settled : Result (Unit {0}) NoMemory) → IsBookFor server setting table target book → quest ≡ quest_for server setting target → lookup.book ≡ book → lookup.queries ≡ []
-    → IsSeekerFor server setting table target (record { quest = quest; lookup = lookup; pass = pass; settled = settled })
-seeker_for server setting table target book quest lookup pass settled h is same none = record { book = subst (IsBookFor server setting table target) (sym same) h; quest = is; none_open = none }
+pub seeker_for : (server : ServeSetting) (setting : ManySetting) (table : TableState) (job : Job) (book : BookState) (quest : Quest) (lookup : Lookup) (pass : PassState TableCall TableReply) (settled : Result (Unit {0}) NoMemory) (gathered : Gathered) → IsBookFor server setting table job book → quest ≡ quest_for server setting job → lookup.book ≡ book → lookup.queries ≡ [] → IsBare gathered
+    → IsSeekerFor server setting table job (record { quest = quest; lookup = lookup; gathered = gathered; pass = pass; settled = settled })
+seeker_for server setting table job book quest lookup pass settled gathered h is same none bare = record { bare = bare; book = subst (IsBookFor server setting table job) (sym same) h; quest = is; none_open = none }
 
 turned : {A : Type 0} (xs rest : List A) (x : A) → xs ≡ rest ++ x ∷ [] → reverse xs ≡ x ∷ reverse rest
 turned xs rest x e = ap reverse e ∙ reverse-append rest (x ∷ [])
 
 -- the next book
-pub finishing_first : (all left rest : List BookState) (b : BookState) (ones : List One) → Finishing all left ones → left ≡ rest ++ b ∷ [] → IsOverBook b
-finishing_first all left rest b ones f e = (subst (AllByRecursion IsOverBook) (turned left rest b e) f.over).0
+pub finishing_first : (all left rest : List Done) (b : Done) (ones : List One) → Finishing all left ones → left ≡ rest ++ b ∷ [] → IsOverBook b.book
+finishing_first all left rest b ones f e = (subst (AllByRecursion (λ (d : Done). IsOverBook d.book)) (turned left rest b e) f.over).0
 
-pub finishing_next : (all left rest : List BookState) (b : BookState) (ones ones' : List One) (one : One) → Finishing all left ones → left ≡ rest ++ b ∷ [] → IsDone b one → ones' ≡ ones ++ one ∷ [] → Finishing all rest ones'
+pub finishing_next : (all left rest : List Done) (b : Done) (ones ones' : List One) (one : One) → Finishing all left ones → left ≡ rest ++ b ∷ [] → IsOutcome b one → ones' ≡ ones ++ one ∷ [] → Finishing all rest ones'
 finishing_next all left rest b ones ones' one f e done is = record {
   done = f.done ++ b ∷ [];
   are = f.are ∙ ap (λ l. f.done ++ l) (turned left rest b e) ∙ sym (append_assoc f.done (b ∷ []) (reverse rest));
-  found = subst (AllZip IsDone (f.done ++ b ∷ [])) (sym is) (zip_more IsDone f.done ones b one f.found done);
-  over = (subst (AllByRecursion IsOverBook) (turned left rest b e) f.over).1;
+  found = subst (AllZip IsOutcome (f.done ++ b ∷ [])) (sym is) (zip_more IsOutcome f.done ones b one f.found done);
+  over = (subst (AllByRecursion (λ (d : Done). IsOverBook d.book)) (turned left rest b e) f.over).1;
 }
+
+-- how many follow-ups of it were sent
+last_behind : (i : ℕ) → i + 0 ≡ i
+last_behind i = omega arith
+
+first_behind : (n : ℕ) → n ≡ 0 + n
+first_behind n = omega arith
+
+next_behind : (i n : ℕ) → i + suc n ≡ suc i + n
+next_behind i n = omega arith
+
+sent_behind : (told : List ℕ) (i : ℕ) (ones : List One) (one : One) → AreSent told i ones → one.sent ≡ how_often (i + length ones) told → AreSent told i (ones ++ one ∷ [])
+sent_behind told i [] one h e = (e ∙ ap (λ n. how_often n told) (last_behind i), tt)
+sent_behind told i (o ∷ ones) one h e = (h.0, sent_behind told (suc i) ones one h.1 (e ∙ ap (λ n. how_often n told) (next_behind i (length ones))))
+
+pub sent_next : (told : List ℕ) (ones ones' : List One) (one : One) (n : ℕ) → AreSent told 0 ones → one.sent ≡ how_often n told → n ≡ length ones → ones' ≡ ones ++ one ∷ [] → AreSent told 0 ones'
+sent_next told ones ones' one n h e at is = subst (λ (l : List One). AreSent told 0 l) (sym is) (sent_behind told 0 ones one h (e ∙ ap (λ k. how_often k told) (at ∙ first_behind (length ones))))

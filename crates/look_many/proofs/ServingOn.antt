@@ -1,5 +1,5 @@
 -- The receives that wait for others than the lookups, which are over.
-use Rattle.std.proofs.Common.{◌≡◌, ℕ, ◌<◌, List, [], ◌∷◌, ◌++◌, false, refl, sym, ap, subst, ◌∙◌, arith}
+use Rattle.std.proofs.Common.{◌≡◌, ◌≢◌, ℕ, zero, suc, ◌+◌, ◌<◌, ◌≤◌, List, [], ◌∷◌, ◌++◌, false, refl, sym, ap, subst, ◌∙◌, arith}
 use Rattle.std.specs.Prelude.{map, None}
 use Rattle.std.specs.List.{AllByRecursion, AllZip}
 use Rattle.std.proofs.lemmas.List.{append-nil}
@@ -9,17 +9,17 @@ use Rattle.node_serve.specs.Lasting.{waits_to}
 use Rattle.look_many.specs.declared.seeker.Seeker.{Seeker}
 use Rattle.look_many.specs.declared.seeker.Progress.{Progress}
 use Rattle.look_many.specs.Mine.{Whose}
-use Rattle.look_many.specs.inner.Crowd.{whose, NoneAsks, Longer, DrivenOn, SameSeat}
+use Rattle.look_many.specs.inner.Crowd.{whose, NoneAsks, Longer, DrivenOn, SameSeat, queries_of}
 use Rattle.look_many.specs.inner.ManySteps.{IsRunOut, for_others, MayReceive, MayServe, Received, WantsMore}
 use Rattle.lookup_core.proofs.Received.{none_driven}
 use Rattle.look_many.proofs.Rounding.{Stays}
 
-pub may_serve : (ks : List Seeker) (progress : Progress) (until : ℕ) → MayServe ks progress → WantsMore progress → until ≡ waits_to progress.end progress.moment → MayReceive ks progress until false
-may_serve ks progress until may more waits = record {
+pub may_serve : (ks : List Seeker) (progress : Progress) (until : ℕ) → MayServe ks progress → progress.unsaid ≡ 0 → WantsMore progress → until ≡ waits_to progress.end progress.moment → MayReceive ks progress until false
+may_serve ks progress until may unsaid more waits = record {
   holds = may.holds;
-  waits = for_others refl may.none_open may.over more.some_left more.before_end waits;
+  waits = for_others refl may.none_open may.over unsaid may.round_over more.some_left more.before_end waits;
   in_turn = λ z. may.none_asks;
-  few_receives = may.few_receives;
+  few_receives = (let z = may.round_over in omega (arith, z));
   room = (let room = may.room in let left = more.some_left in omega (arith, room, left));
   counted = may.counted;
 }
@@ -44,20 +44,28 @@ none_same (o ∷ olds) (n ∷ news) same h =
     (subst (λ (w : Whose). (p : ℕ) → p < w.setting.paths → may_ask w.setting p w.journal ≡ None) (sym head) h.0, none_same olds news tail h.1)
 
 -- they have the same journals, and the same passes
-pub stays_same : (olds news : List Seeker) → map whose news ≡ map whose olds → AllZip SameSeat olds news → Stays olds news
-stays_same olds news same seats = record { longer = longer_same olds news same; driven_on = driven_same olds news same; seats = seats }
+pub stays_same : (olds news : List Seeker) → map whose news ≡ map whose olds → map (λ (k : Seeker). k.gathered) news ≡ map (λ (k : Seeker). k.gathered) olds → AllZip SameSeat olds news → Stays olds news
+stays_same olds news same gathered seats = record { longer = longer_same olds news same gathered; driven_on = driven_same olds news same; seats = seats }
   where
+    first : {A : Type 0} {x y : A} {xs ys : List A} → x ∷ xs ≡ y ∷ ys → x ≡ y
+    first e = cc
+
+    rest : {A : Type 0} {x y : A} {xs ys : List A} → x ∷ xs ≡ y ∷ ys → xs ≡ ys
+    rest e = cc
+
     nothing_more : (o n : Seeker) → whose n ≡ whose o → n.lookup.book.journal ≡ o.lookup.book.journal ++ []
     nothing_more o n head = ap (λ (w : Whose). w.journal) head ∙ sym (append-nil o.lookup.book.journal)
 
-    longer_same : (olds news : List Seeker) → map whose news ≡ map whose olds → AllZip Longer olds news
-    longer_same [] [] same = tt
-    longer_same [] (n ∷ news) same = absurd cc
-    longer_same (o ∷ olds) [] same = absurd cc
-    longer_same (o ∷ olds) (n ∷ news) same =
+    longer_same : (olds news : List Seeker) → map whose news ≡ map whose olds → map (λ (k : Seeker). k.gathered) news ≡ map (λ (k : Seeker). k.gathered) olds → AllZip Longer olds news
+    longer_same [] [] same gathered = tt
+    longer_same [] (n ∷ news) same gathered = absurd cc
+    longer_same (o ∷ olds) [] same gathered = absurd cc
+    longer_same (o ∷ olds) (n ∷ news) same gathered =
         let head : whose n ≡ whose o = cc in
         let tail : map whose news ≡ map whose olds = cc in
-        (record { more = []; quest = ap (λ (w : Whose). w.quest) head; setting = ap (λ (w : Whose). w.setting) head; journal = nothing_more o n head }, longer_same olds news tail)
+        let kept : n.gathered ≡ o.gathered = first gathered in
+        let others : map (λ (k : Seeker). k.gathered) news ≡ map (λ (k : Seeker). k.gathered) olds = rest gathered in
+        (record { more = []; quest = ap (λ (w : Whose). w.quest) head; setting = ap (λ (w : Whose). w.setting) head; journal = nothing_more o n head; gathered = λ is. kept }, longer_same olds news tail others)
 
     driven_same : (olds news : List Seeker) → map whose news ≡ map whose olds → AllZip DrivenOn olds news
     driven_same [] [] same = tt
@@ -68,13 +76,22 @@ stays_same olds news same seats = record { longer = longer_same olds news same; 
         let tail : map whose news ≡ map whose olds = cc in
         (record { more = []; journal = nothing_more o n head; all_driven = none_driven }, driven_same olds news tail)
 
-pub serve_next : (old new : List Seeker) (progress progress' : Progress) → MayServe old progress → WantsMore progress → Received false old new progress progress' → MayServe new progress'
-serve_next old new progress progress' may more r = record {
+-- no round goes on where no query is open
+none_on : (n : ℕ) (P : Type 0) → (n ≢ 0 → P → ⊥) → P → n ≡ 0
+none_on zero P some none = refl
+none_on (suc n) P some none = absurd (some (λ z. absurd (omega (arith, z))) none)
+
+-- after a receive the lookups are over as before
+pub over_next : (old new : List Seeker) (progress between progress' : Progress) → MayServe old progress → Received false old new between progress' → progress'.foreign + progress'.left + progress'.unsaid ≤ progress.foreign + progress.left + progress.unsaid → MayServe new progress'
+over_next old new progress between progress' may r no_more = record {
   holds = r.holds;
   none_open = r.none_open refl;
   over = over_same old new (r.same refl) may.over;
   none_asks = none_same old new (r.same refl) may.none_asks;
-  few_receives = r.few_receives;
-  room = (let room = may.room in let left = r.left in let foreign = r.foreign in let some = more.some_left in omega (arith, room, left, foreign, some));
+  round_over = none_on progress'.receives (queries_of new ≡ []) r.still (r.none_open refl);
+  room = (let room = may.room in omega (arith, room, no_more));
   counted = r.counted;
 }
+
+pub serve_next : (old new : List Seeker) (progress progress' : Progress) → MayServe old progress → WantsMore progress → Received false old new progress progress' → MayServe new progress'
+serve_next old new progress progress' may more r = over_next old new progress progress progress' may r (let left = r.left in let foreign = r.foreign in let unsaid = r.unsaid in let some = more.some_left in omega (arith, left, foreign, unsaid, some))

@@ -14,6 +14,8 @@ use Rattle.turn_book.specs.Turns.{TurnState}
 use Rattle.contact_table.specs.TableState.{TableState}
 use Rattle.claim_book.specs.Journal.{asked}
 use Rattle.claim_book.specs.declared.types.Setting.{Setting}
+use Rattle.lookup_core.specs.declared.quest.Quest.{Quest}
+use Rattle.lookup_core.specs.Gathered.{Keeping}
 use Rattle.lookup_core.specs.LookupSteps.{as_open}
 use Rattle.lookup_core.specs.Sealed.{Accepts}
 use Rattle.lookup_core.proofs.Opens.{opens_kept, each_asked}
@@ -37,7 +39,7 @@ use Rattle.look_many.proofs.Settling.{whole_where}
 -- ---- what the events show
 
 some_longer : (k l : Seeker) → SettlesSome k l → Longer k l
-some_longer k l s = record { more = s.more; quest = s.quest; setting = s.setting; journal = s.journal }
+some_longer k l s = record { more = s.more; quest = s.quest; setting = s.setting; journal = s.journal; gathered = λ is. s.gathered }
 
 pub settled_longer : (ks ls : List Seeker) → AllZip SettlesSome ks ls → AllZip Longer ks ls
 settled_longer [] [] s = tt
@@ -52,6 +54,7 @@ one_keeps k l m holds s keeps =
     record {
       queries = keeps.queries ∙ sym (opens_kept J s.more qs (each_asked J qs holds.is_open)) ∙ ap (λ K. map (as_open K) qs) (sym s.journal) ∙ ap (map (as_open l.lookup.book.journal)) (sym s.queries);
       given = keeps.given ∙ sym (driven_same J s.more s.none_driven) ∙ ap driven (sym s.journal);
+      gathered = subst (λ (q : Quest). Keeping q.kind m.heard l.gathered) (sym s.quest) (subst (Keeping k.quest.kind m.heard) (sym s.gathered) keeps.gathered);
     }
 
 each_keeps : (ks ls : List Seeker) (ms : List Mine) → AllByRecursion Holding ks → AllZip SettlesSome ks ls → AllZip KeepsMine ks ms → AllZip KeepsMine ls ms
@@ -70,6 +73,7 @@ shows_settled f count place old new progress read es holds s h = record {
   walk = walk_still true f old new (begun f.minutes count h.at) h.rest h.end read (settled_longer old new s) (λ e. absurd cc) h.walk;
   keeps_progress = h.keeps_progress;
   keeps_each = each_keeps old new h.end.each holds s h.keeps_each;
+  keeps_saying = h.keeps_saying;
 }
 
 -- whatever was told since any beginning they go on to tell, and nothing more is read of it
@@ -78,6 +82,7 @@ pub settled_goes : (accepts : Accepts) (tags : Tags) (server : ServeSetting) (pr
 settled_goes accepts tags server progress words host told old new holds s = record {
   more = nothing_read;
   owners_are = refl;
+  none_told = refl;
   goes = λ f count read began is h. grows_weaker began told _ _ h (λ es shows.
       subst (λ r. ManyShow true f count new progress words.place None r es) (sym (nothing_after read)) (shows_settled f count words.place old new progress read es holds s shows));
   ran = ran_none host;

@@ -1,16 +1,14 @@
 -- One lookup settles what it has: no event gives such an entry, and what the others had stays.
-use Rattle.std.proofs.Common.{◌≡◌, ◌≢◌, ℕ, ◌+◌, ◌^◌, ◌==◌, eqb, ◌<◌, ◌≤◌, List, [], ◌∷◌, ◌++◌, length, drop, Bool, true, false, cond, Result, Ok, Err, Some, inl, inr, refl, sym, ap, subst, ◌∙◌, arith}
-use Rattle.std.specs.Prelude.{map, filter, ◌⊎◌, IsOk, OnOk}
-use Rattle.std.specs.List.{AllByRecursion, flat_map}
-use Rattle.std.proofs.lemmas.Bool.{cases_lt, eqb-true, eq-eqb, false≢true, true≢false}
-use Rattle.std.proofs.lemmas.Bool.Decides.{eqb_tells}
+use Rattle.std.proofs.Common.{◌≡◌, ℕ, ◌+◌, ◌^◌, ◌<◌, ◌≤◌, List, [], ◌∷◌, ◌++◌, true, cond, Result, Ok, Err, Some, inl, inr, refl, sym, ap, subst, ◌∙◌, arith}
+use Rattle.std.specs.Prelude.{map, IsOk, OnOk}
+use Rattle.std.specs.List.{AllByRecursion}
+use Rattle.std.proofs.lemmas.Bool.{cases_lt, eq-eqb}
 use Rattle.std.proofs.lemmas.List.{append-nil, append_assoc, map-append}
 use Rattle.std.proofs.lemmas.List.Concat.{flat_map-append}
-use Rattle.std.proofs.lemmas.List.Elements.{All-nil, All-push, All-append, filter-append}
+use Rattle.std.proofs.lemmas.List.Elements.{All-nil, All-push, All-append}
 use Rattle.kad_base.specs.declared.types.Contact.{Contact}
 use Rattle.kad_base.specs.declared.types.NoMemory.{NoMemory as NoMemory_type}
 use Rattle.kad_base.specs.declared.serial.Made.{Made}
-use Rattle.kad_base.specs.Contacts.{without}
 use Rattle.kad_base.specs.Limits.{max_paths}
 use Rattle.kad_base.specs.Serial.{made}
 use Rattle.query_book.specs.declared.Query.{Query}
@@ -22,15 +20,14 @@ use Rattle.contact_table.specs.TableState.{TableState}
 use Rattle.contact_table.specs.Told.{HasMemory, calls_in, seen_calls}
 use Rattle.claim_book.specs.CheckedState.{CheckedState}
 use Rattle.claim_book.specs.declared.types.Entry.{Entry}
-use Rattle.claim_book.specs.declared.types.Entry.TheVariants.{Seed, Ask, Heard, Lost, Note, Taken, Held, Turned, Rejected, Skipped}
+use Rattle.claim_book.specs.declared.types.Entry.TheVariants.{Note}
 use Rattle.claim_book.specs.declared.types.Setting.{Setting}
 use Rattle.claim_book.specs.declared.types.Thing.TheVariants.{Responder}
 use Rattle.claim_book.specs.declared.calls.BookReply.{BookReply}
 use Rattle.claim_book.specs.declared.calls.BookReply.TheVariants.{Kept, NotFront}
 use Rattle.claim_book.specs.Calls.{NoteStep, SettleStep, IsFront, after_kept, after_settle}
-use Rattle.claim_book.specs.Journal.{seed_of, ask_of, answer_of, fail_of, things_of, settles_on, seeds, asked, answered, failed, open_any, things, settled, unsettled, first_unsettled}
+use Rattle.claim_book.specs.Journal.{settles_on, seeds, open_any, unsettled, first_unsettled}
 use Rattle.claim_book.specs.State.{BookState, added}
-use Rattle.claim_book.proofs.More.{settled_more, things_more}
 use Rattle.path_worker.specs.Settling.{seen_with}
 use Rattle.path_worker.specs.WorkerSteps.{SettlesReport}
 use Rattle.path_worker.proofs.WorkerSteps.{settle_one}
@@ -38,7 +35,7 @@ use Rattle.serve_crew.specs.Hands.{TablePass, SamePass, ToldOf}
 use Rattle.lookup_core.proofs.Received.{none_driven}
 use Rattle.lookup_core.proofs.Settling.{IsSilent, open_same, driven_same, seeds_same, settles_silent, one_unseeded, unsettled_same}
 use Rattle.look_many.specs.declared.seeker.Seeker.{Seeker}
-use Rattle.look_many.specs.Mine.{is_driven, driven}
+use Rattle.look_many.specs.Mine.{driven}
 use Rattle.look_many.specs.ManyLooked.{note_of, noted}
 use Rattle.look_many.specs.inner.Crowd.{Holding}
 use Rattle.look_many.specs.inner.ManySteps.{SettlesSome, SettlesWhole}
@@ -56,9 +53,9 @@ one_silent e h = ap (λ b. cond b (e ∷ []) []) h
 
 -- ---- some was settled
 
-abbrev some_of : (old new : Seeker) (more : List Entry) → Holding old → new.quest ≡ old.quest → new.lookup.book.setting ≡ old.lookup.book.setting → new.lookup.queries ≡ old.lookup.queries → new.lookup.book.journal ≡ old.lookup.book.journal ++ more → driven more ≡ [] → seeds more ≡ [] → SamePass old.pass new.pass
+abbrev some_of : (old new : Seeker) (more : List Entry) → Holding old → new.quest ≡ old.quest → new.gathered ≡ old.gathered → new.lookup.book.setting ≡ old.lookup.book.setting → new.lookup.queries ≡ old.lookup.queries → new.lookup.book.journal ≡ old.lookup.book.journal ++ more → driven more ≡ [] → seeds more ≡ [] → SamePass old.pass new.pass
     → SettlesSome old new
-some_of old new more holds quest setting queries journal none unseeded same = record {
+some_of old new more holds quest gathered setting queries journal none unseeded same = record {
   quest = quest;
   setting = setting;
   queries = queries;
@@ -66,6 +63,7 @@ some_of old new more holds quest setting queries journal none unseeded same = re
   journal = journal;
   none_driven = none;
   no_seeds = unseeded;
+  gathered = gathered;
   holds = record {
     is_open = ap (map (λ (q : Query). q.contact)) queries ∙ holds.is_open ∙ sym (ap open_any journal ∙ open_same old.lookup.book.journal more none);
     ids = subst (AllByRecursion (λ (q : Query). q.tx < 2 ^ 32)) (sym queries) holds.ids;
@@ -73,9 +71,9 @@ some_of old new more holds quest setting queries journal none unseeded same = re
   same = same;
 }
 
-abbrev pub some_none : (old new : Seeker) → Holding old → new.quest ≡ old.quest → new.lookup ≡ old.lookup → SamePass old.pass new.pass → SettlesSome old new
-some_none old new holds quest lookup same =
-    some_of old new [] holds quest (ap (λ l. l.book.setting) lookup) (ap (λ l. l.queries) lookup) (ap (λ l. l.book.journal) lookup ∙ sym (append-nil old.lookup.book.journal)) none_driven none_seeded same
+abbrev pub some_none : (old new : Seeker) → Holding old → new.quest ≡ old.quest → new.gathered ≡ old.gathered → new.lookup ≡ old.lookup → SamePass old.pass new.pass → SettlesSome old new
+some_none old new holds quest gathered lookup same =
+    some_of old new [] holds quest gathered (ap (λ l. l.book.setting) lookup) (ap (λ l. l.queries) lookup) (ap (λ l. l.book.journal) lookup ∙ sym (append-nil old.lookup.book.journal)) none_driven none_seeded same
 
 abbrev pub some_then : (a b c : Seeker) → SettlesSome a b → SettlesSome b c → SettlesSome a c
 some_then a b c x y = record {
@@ -86,6 +84,7 @@ some_then a b c x y = record {
   journal = y.journal ∙ ap (λ J. J ++ y.more) x.journal ∙ append_assoc a.lookup.book.journal x.more y.more;
   none_driven = driven_same x.more y.more y.none_driven ∙ x.none_driven;
   no_seeds = seeds_same x.more y.more y.no_seeds ∙ x.no_seeds;
+  gathered = y.gathered ∙ x.gathered;
   holds = y.holds;
   same = record { turn = y.same.turn ∙ x.same.turn; role = y.same.role ∙ x.same.role };
 }
@@ -124,9 +123,9 @@ same_pass old new same = record { turn = ap (λ (p : TablePass). p.turn) same; r
 -- ---- on a path
 
 -- nothing yet
-pub on_none : (path : ℕ) (old new : Seeker) → Holding old → new.quest ≡ old.quest → new.lookup ≡ old.lookup → new.pass ≡ old.pass → SettlesOn path old new
-on_none path old new holds quest lookup pass = record {
-  some = some_none old new holds quest lookup (same_pass old new pass);
+pub on_none : (path : ℕ) (old new : Seeker) → Holding old → new.quest ≡ old.quest → new.gathered ≡ old.gathered → new.lookup ≡ old.lookup → new.pass ≡ old.pass → SettlesOn path old new
+on_none path old new holds quest gathered lookup pass = record {
+  some = some_none old new holds quest gathered lookup (same_pass old new pass);
   others = λ q ne. ap (λ l. unsettled q l.book.journal) lookup;
   tells = tells_nothing old new [] pass refl;
 }
@@ -139,24 +138,24 @@ on_then path a b c x y = record {
 }
 
 -- one entry more
-on_one : (path : ℕ) (old new : Seeker) (e : Entry) → Holding old → new.quest ≡ old.quest → new.lookup.queries ≡ old.lookup.queries → new.lookup.book ≡ added old.lookup.book e → settles_on path e ≡ true → SamePass old.pass new.pass → TellsNoted old new (e ∷ []) → SettlesOn path old new
-on_one path old new e holds quest queries book settles same tells =
+on_one : (path : ℕ) (old new : Seeker) (e : Entry) → Holding old → new.quest ≡ old.quest → new.gathered ≡ old.gathered → new.lookup.queries ≡ old.lookup.queries → new.lookup.book ≡ added old.lookup.book e → settles_on path e ≡ true → SamePass old.pass new.pass → TellsNoted old new (e ∷ []) → SettlesOn path old new
+on_one path old new e holds quest gathered queries book settles same tells =
     let journal : new.lookup.book.journal ≡ old.lookup.book.journal ++ e ∷ [] = ap (λ (b : BookState). b.journal) book in
     record {
-      some = some_of old new (e ∷ []) holds quest (ap (λ (b : BookState). b.setting) book) queries journal (one_silent e (settles_silent path e settles)) (one_unseeded path e settles) same;
+      some = some_of old new (e ∷ []) holds quest gathered (ap (λ (b : BookState). b.setting) book) queries journal (one_silent e (settles_silent path e settles)) (one_unseeded path e settles) same;
       others = λ q ne. ap (unsettled q) journal ∙ unsettled_same path q old.lookup.book.journal (e ∷ []) ne (settles, tt);
       tells = tells;
     }
 
 -- a contact that answered was told, and is noted
-pub on_note : (path q : ℕ) (old new : Seeker) (c : Contact) (reply : BookReply) → Holding old → q ≡ path → first_unsettled path old.lookup.book.journal ≡ Some (Responder c) → NoteStep old.lookup.book.journal q c reply → new.lookup.book ≡ after_kept old.lookup.book (Note q c) reply → new.quest ≡ old.quest
+pub on_note : (path q : ℕ) (old new : Seeker) (c : Contact) (reply : BookReply) → Holding old → q ≡ path → first_unsettled path old.lookup.book.journal ≡ Some (Responder c) → NoteStep old.lookup.book.journal q c reply → new.lookup.book ≡ after_kept old.lookup.book (Note q c) reply → new.quest ≡ old.quest → new.gathered ≡ old.gathered
     → new.lookup.queries ≡ old.lookup.queries → SamePass old.pass new.pass → ToldOf c old.pass new.pass → SettlesOn path old new
-on_note path q old new c reply holds is first step book quest queries same told =
+on_note path q old new c reply holds is first step book quest gathered queries same told =
     here reply (subst (λ n. NoteStep old.lookup.book.journal n c reply) is step) (book ∙ ap (λ n. after_kept old.lookup.book (Note n c) reply) is)
   where
     here : (reply : BookReply) → NoteStep old.lookup.book.journal path c reply → new.lookup.book ≡ after_kept old.lookup.book (Note path c) reply → SettlesOn path old new
     here Kept step book =
-        on_one path old new (Note path c) holds quest queries book (eq-eqb path path refl) same (record {
+        on_one path old new (Note path c) holds quest gathered queries book (eq-eqb path path refl) same (record {
           told = made old.pass.role (Seen c) told.0 ∷ [];
           grew = told.2;
           calls = refl;
@@ -171,18 +170,18 @@ seen_noted other = refl
 
 -- of a report the table isn't told
 pub on_report : (path q : ℕ) (old new : Seeker) (checked : CheckedState) (reply : BookReply) → Holding old → q ≡ path → IsFront old.lookup.book.setting old.lookup.book.journal path checked → SettleStep old.lookup.book.setting old.lookup.book.journal q checked reply
-    → new.lookup.book ≡ after_settle old.lookup.book q checked reply → new.quest ≡ old.quest → new.lookup.queries ≡ old.lookup.queries → new.pass ≡ old.pass → SettlesOn path old new
-on_report path q old new checked reply holds is front step book quest queries pass =
+    → new.lookup.book ≡ after_settle old.lookup.book q checked reply → new.quest ≡ old.quest → new.gathered ≡ old.gathered → new.lookup.queries ≡ old.lookup.queries → new.pass ≡ old.pass → SettlesOn path old new
+on_report path q old new checked reply holds is front step book quest gathered queries pass =
     let h : SettlesReport path old.lookup.book (after_settle old.lookup.book q checked reply) = settle_one path q old.lookup.book checked reply is front step in
     let e = h.one.entry in
-    on_one path old new e holds quest queries (book ∙ h.one.after) h.one.settles (same_pass old new pass)
+    on_one path old new e holds quest gathered queries (book ∙ h.one.after) h.one.settles (same_pass old new pass)
     (tells_nothing old new (e ∷ []) pass (ap seen_calls (append-nil (note_of e)) ∙ seen_noted e ∙ h.tells_none))
 
 -- ---- path by path
 
 pub to_none : (k : Seeker) → Holding k → SettlesTo 0 k k
 to_none k holds = record {
-  some = some_none k k holds refl refl (same_pass k k refl);
+  some = some_none k k holds refl refl refl (same_pass k k refl);
   left = λ p lt. absurd (omega (arith, lt));
   tells = tells_nothing k k [] refl refl;
 }
@@ -211,7 +210,7 @@ whole_of tables n old new can le h = record {
 }
 
 abbrev some_by : (old new : Seeker) (r : Result (Unit {0}) NoMemory_type) → SettlesSome old new → SettlesSome old (record new { settled = r })
-some_by old new r s = record { quest = s.quest; setting = s.setting; queries = s.queries; more = s.more; journal = s.journal; none_driven = s.none_driven; no_seeds = s.no_seeds; holds = s.holds; same = s.same }
+some_by old new r s = record { quest = s.quest; setting = s.setting; queries = s.queries; more = s.more; journal = s.journal; none_driven = s.none_driven; no_seeds = s.no_seeds; gathered = s.gathered; holds = s.holds; same = s.same }
 
 -- how it ended is kept beside
 pub settles_by : (old new : Seeker) (r : Result (Unit {0}) NoMemory_type) → SettlesSome old new → OnOk r (SettlesWhole old new) → Settles old (record new { settled = r })

@@ -16,7 +16,7 @@ use Rattle.look_many.specs.Mine.{Mine, waited}
 use Rattle.look_many.specs.Many.{FirstTakes, IsForeign}
 use Rattle.look_many.specs.inner.Crowd.{whose, Holding, Longer, KeepsMine, SameSeat}
 use Rattle.look_many.specs.inner.ManySteps.{IsMatchFor, IsNotFor, IsUnasked, FirstWaits, Hears, TakesFirst, Expires, all_lapsed}
-use Rattle.look_many.proofs.Lists.{all_back, apart_at}
+use Rattle.look_many.proofs.Lists.{all_back}
 use Rattle.look_many.proofs.OneReceive.{waits_on, stray_for, matches_on}
 
 -- what goes on to hold of each, and whom all lost
@@ -123,6 +123,7 @@ first_hears accepts from bytes said old found d after reads w h seat =
       takes = record {
         heard = handed hears.out;
         matches = matched_at w.one.quest accepts from bytes said found.1 w.one.lookup after.lookup hears.out reads w.waits hears.hears;
+        gathers = hears.gathers;
         quest = hears.quest;
         holds = hears.holds;
         seat = subst (λ k. SameSeat k after) one seat;

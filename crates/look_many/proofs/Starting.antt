@@ -2,8 +2,7 @@
 use Rattle.std.proofs.Common.{◌≡◌, ℕ, suc, ◌+◌, ◌*◌, ◌^◌, ◌<◌, ◌≤◌, List, [], ◌∷◌, ◌++◌, length, refl, sym, ap, subst, ◌∙◌, arith}
 use Rattle.std.specs.Prelude.{map}
 use Rattle.std.specs.List.{AllByRecursion, AllZip, range_with_len}
-use Rattle.kad_base.specs.declared.types.Id.{Id}
-use Rattle.kad_base.specs.declared.types.Contact.{Contact}
+use Rattle.look_many.specs.declared.job.Job.{Job}
 use Rattle.kad_base.specs.Limits.{max_paths, max_alpha, max_open}
 use Rattle.query_book.specs.declared.Query.{Query}
 use Rattle.turn_book.specs.Turns.{TurnState, fresh}
@@ -27,16 +26,16 @@ use Rattle.look_many.proofs.Zips.{zip_length}
 
 -- ---- one lookup
 
-module _ (server : ServeSetting) (setting : ManySetting) (table : TableState) (limits : IsWithinLimits setting) (small : server.k < 256) (target : Id) (k : Seeker) (s : IsSeekerFor server setting table target k) where
-  at_setting : (P : Setting → Type 0) → P (setting_for server setting target) → P k.lookup.book.setting
+module _ (server : ServeSetting) (setting : ManySetting) (table : TableState) (limits : IsWithinLimits setting) (small : server.k < 256) (job : Job) (k : Seeker) (s : IsSeekerFor server setting table job k) where
+  at_setting : (P : Setting → Type 0) → P (setting_for server setting job) → P k.lookup.book.setting
   at_setting P p = subst P (sym s.book.setting_is) p
 
   begin_asks : length (asked k.lookup.book.journal) ≡ 0
-  begin_asks = ap (λ J. length (asked J)) s.book.journal ∙ ap length (seeds_ask setting.per_address setting.paths (seeds_for server table target))
+  begin_asks = ap (λ J. length (asked J)) s.book.journal ∙ ap length (seeds_ask setting.per_address setting.paths (seeds_for server table job))
 
   begin_holds : Holding k
   begin_holds = record {
-    is_open = ap (map (λ (q : Query). q.contact)) s.none_open ∙ sym (ap open_any s.book.journal ∙ seeds_open setting.per_address setting.paths (seeds_for server table target));
+    is_open = ap (map (λ (q : Query). q.contact)) s.none_open ∙ sym (ap open_any s.book.journal ∙ seeds_open setting.per_address setting.paths (seeds_for server table job));
     ids = subst (AllByRecursion (λ (q : Query). q.tx < 2 ^ 32)) (sym s.none_open) tt;
   }
 
@@ -55,48 +54,48 @@ module _ (server : ServeSetting) (setting : ManySetting) (table : TableState) (l
       most a p x y = grind arith
 
   begin_left : NothingLeft k
-  begin_left = λ p lt. ap (unsettled p) s.book.journal ∙ seeds_settled p setting.per_address setting.paths (seeds_for server table target)
+  begin_left = λ p lt. ap (unsettled p) s.book.journal ∙ seeds_settled p setting.per_address setting.paths (seeds_for server table job)
 
   begin_fresh : IsFresh k
-  begin_fresh = record { none_open = s.none_open; none_driven = ap driven s.book.journal ∙ seeds_quiet setting.per_address setting.paths (seeds_for server table target) }
+  begin_fresh = record { bare = s.bare; none_open = s.none_open; none_driven = ap driven s.book.journal ∙ seeds_quiet setting.per_address setting.paths (seeds_for server table job) }
 
   begin_some : 1 ≤ k.lookup.book.setting.alpha
   begin_some = at_setting (λ x. 1 ≤ x.alpha) limits.some_query
 
-  pub begin_seeds : seeds k.lookup.book.journal ≡ seeded setting.per_address setting.paths (seeds_for server table target)
-  begin_seeds = ap seeds s.book.journal ∙ seeds_stand setting.per_address setting.paths (seeds_for server table target)
+  pub begin_seeds : seeds k.lookup.book.journal ≡ seeded setting.per_address setting.paths (seeds_for server table job)
+  begin_seeds = ap seeds s.book.journal ∙ seeds_stand setting.per_address setting.paths (seeds_for server table job)
 
 -- ---- all of them
 
 module _ (server : ServeSetting) (setting : ManySetting) (table : TableState) (limits : IsWithinLimits setting) (small : server.k < 256) where
-  abbrev All_for : List Id → List Seeker → Type 0
-  All_for targets ks = AllZip (IsSeekerFor server setting table) targets ks
+  abbrev All_for : List Job → List Seeker → Type 0
+  All_for jobs ks = AllZip (IsSeekerFor server setting table) jobs ks
 
-  each_of : (Q : Seeker → Type 0) → ((t : Id) (k : Seeker) → IsSeekerFor server setting table t k → Q k) → (ts : List Id) (ks : List Seeker) → All_for ts ks → AllByRecursion Q ks
+  each_of : (Q : Seeker → Type 0) → ((t : Job) (k : Seeker) → IsSeekerFor server setting table t k → Q k) → (ts : List Job) (ks : List Seeker) → All_for ts ks → AllByRecursion Q ks
   each_of Q f [] [] h = tt
   each_of Q f [] (k ∷ ks) h = absurd h
   each_of Q f (t ∷ ts) [] h = absurd h
   each_of Q f (t ∷ ts) (k ∷ ks) h = (f t k h.0, each_of Q f ts ks h.1)
 
-  no_queries : (ts : List Id) (ks : List Seeker) → All_for ts ks → queries_of ks ≡ []
+  no_queries : (ts : List Job) (ks : List Seeker) → All_for ts ks → queries_of ks ≡ []
   no_queries [] [] h = refl
   no_queries [] (k ∷ ks) h = absurd h
   no_queries (t ∷ ts) [] h = absurd h
   no_queries (t ∷ ts) (k ∷ ks) h = ap (λ l. l ++ queries_of ks) h.0.none_open ∙ no_queries ts ks h.1
 
-  no_asks : (ts : List Id) (ks : List Seeker) → All_for ts ks → asks_of ks ≡ 0
+  no_asks : (ts : List Job) (ks : List Seeker) → All_for ts ks → asks_of ks ≡ 0
   no_asks [] [] h = refl
   no_asks [] (k ∷ ks) h = absurd h
   no_asks (t ∷ ts) [] h = absurd h
   no_asks (t ∷ ts) (k ∷ ks) h = (let one = begin_asks server setting table limits small t k h.0 in let rest = no_asks ts ks h.1 in omega (arith, one, rest))
 
-  pub all_fresh_of : (ts : List Id) (ks : List Seeker) → All_for ts ks → AllByRecursion IsFresh ks
+  pub all_fresh_of : (ts : List Job) (ks : List Seeker) → All_for ts ks → AllByRecursion IsFresh ks
   all_fresh_of ts ks h = each_of IsFresh (begin_fresh server setting table limits small) ts ks h
 
-  pub all_some : (ts : List Id) (ks : List Seeker) → All_for ts ks → AllByRecursion (λ (k : Seeker). 1 ≤ k.lookup.book.setting.alpha) ks
+  pub all_some : (ts : List Job) (ks : List Seeker) → All_for ts ks → AllByRecursion (λ (k : Seeker). 1 ≤ k.lookup.book.setting.alpha) ks
   all_some ts ks h = each_of (λ (k : Seeker). 1 ≤ k.lookup.book.setting.alpha) (begin_some server setting table limits small) ts ks h
 
-  pub all_begin_at : (ts : List Id) (s : Stand) → All_for ts s.seekers → length ts ≤ max_lookups → s.words.place < 2 ^ 59 → s.progress.receives ≡ 0 → s.progress.foreign ≡ 0 → s.progress.received ≡ 0 → s.progress.replied ≡ 0 → Begins s
+  pub all_begin_at : (ts : List Job) (s : Stand) → All_for ts s.seekers → length ts ≤ max_lookups → s.words.place < 2 ^ 59 → s.progress.receives ≡ 0 → s.progress.foreign ≡ 0 → s.progress.received ≡ 0 → s.progress.replied ≡ 0 → Begins s
   all_begin_at ts s h few place receives foreign received replied =
       let none = ap length (no_queries ts s.seekers h) in
       let asks = no_asks ts s.seekers h in

@@ -14,13 +14,13 @@ use Rattle.kad_base.proofs.Grown.{grows_then}
 use Rattle.id_puzzles.specs.Drawn.{WordsState}
 use Rattle.query_book.specs.declared.Query.{Query}
 use Rattle.claim_book.specs.declared.types.Setting.{Setting}
-use Rattle.claim_book.specs.declared.types.Entry.{Entry}
 use Rattle.claim_book.specs.Journal.{may_ask}
 use Rattle.claim_book.specs.State.{BookState}
 use Rattle.lookup_core.specs.Matching.{OpenQuery}
 use Rattle.lookup_core.specs.Sealed.{Accepts}
 use Rattle.lookup_core.specs.Timeouts.{closed_at}
 use Rattle.lookup_core.specs.LookupSteps.{as_open}
+use Rattle.lookup_core.proofs.Gathering.{kept_find}
 use Rattle.lookup_core.proofs.Lists.{map_append}
 use Rattle.node_serve.specs.declared.setting.ServeSetting.{ServeSetting}
 use Rattle.node_serve.specs.Calls.{Did}
@@ -29,14 +29,15 @@ use Rattle.node_serve.specs.Receives.{tried}
 use Rattle.node_serve.specs.Sealing.{Tags}
 use Rattle.serve_crew.specs.Hands.{Hands}
 use Rattle.lookup_core.proofs.Received.{same_deadlines as each_deadline}
+use Rattle.look_many.specs.declared.follow.FollowUp.{FollowUp}
 use Rattle.look_many.specs.declared.seeker.Seeker.{Seeker}
 use Rattle.look_many.specs.declared.seeker.Progress.{Progress}
 use Rattle.look_many.specs.declared.seeker.ManyFault.{ManyFault}
 use Rattle.look_many.specs.declared.seeker.ManyFault.TheVariants.{LinkFault}
 use Rattle.look_many.specs.Mine.{Mine, Whose, HaveAsked, waited}
-use Rattle.look_many.specs.Many.{Frame, Owed, Shown, Reading, nothing_read, and_then, read_of, open_of, deadlines_of, WaitsUntil, IsOver, MayWait, for_replies, for_others, AllHaveAsked, Receives, FirstTakes, IsForeign, Owes, goes_on, after_got, after_quiet}
-use Rattle.look_many.specs.inner.Crowd.{whose, opens, Holding, NoneAsks, Longer, DrivenOn, OnlyHeard, queries_of, KeepsMine, KeepsProgress, ManyShow, SameSeat, Ran, Stand, Advances, stand}
-use Rattle.look_many.specs.inner.ManySteps.{IsMatchFor, IsNotFor, TakesFirst, Expires, all_lapsed, IsRunOut, WaitsFor, for_replies as waits_replies, for_others as waits_others, MayReceive, Counts, Answers, Handles, is_taken, is_foreign, Comes, Passes, Pays, after_paid, IsLastForeign, Received, ShowsEarly, Stops, EndsByForeign}
+use Rattle.look_many.specs.Many.{Frame, Owed, Shown, Reading, nothing_read, and_then, read_of, open_of, deadlines_of, WaitsUntil, IsOver, MayWait, for_replies, for_follow_ups, for_others, AllHaveAsked, Receives, FirstTakes, IsForeign, Owes, goes_on, after_got, after_quiet}
+use Rattle.look_many.specs.inner.Crowd.{whose, opens, Holding, NoneAsks, Longer, DrivenOn, OnlyHeard, queries_of, KeepsMine, KeepsProgress, KeepsSaying, ManyShow, SameSeat, Ran, Stand, Advances, stand}
+use Rattle.look_many.specs.inner.ManySteps.{IsMatchFor, IsNotFor, TakesFirst, Expires, all_lapsed, IsRunOut, WaitsFor, for_replies as waits_replies, for_follow_ups as waits_follow_ups, for_others as waits_others, MayReceive, Counts, Answers, Handles, is_taken, is_foreign, Comes, Passes, Pays, after_paid, IsLastForeign, Received, ShowsEarly, Stops, EndsByForeign}
 use Rattle.look_many.proofs.Lists.{none_front, none_back}
 use Rattle.look_many.proofs.Several.{all_wait, first_on, all_stray, first_holds, expired_hold}
 use Rattle.look_many.proofs.Heard.{all_same as only_same_all, all_then, all_expired, first_taken, same_driven, driven_then, expired_driven, first_driven, same_seats, seats_then, expired_seats, first_seats}
@@ -91,29 +92,40 @@ all_asked : (n : ℕ) (ks ls : List Seeker) (ms : List Mine) → (n ≡ 0 → Al
 all_asked zero ks ls ms none k g = each_asked ks ls ms (none refl) k g
 all_asked (suc n) ks ls ms none k g = tt
 
-each_over : (ks : List Seeker) (ms : List Mine) → AllByRecursion IsRunOut ks → AllZip KeepsMine ks ms → AllZip IsOver (map whose ks) ms
+pub each_over : (ks : List Seeker) (ms : List Mine) → AllByRecursion IsRunOut ks → AllZip KeepsMine ks ms → AllZip IsOver (map whose ks) ms
 each_over [] [] over k = tt
 each_over [] (m ∷ ms) over k = absurd k
 each_over (x ∷ ks) [] over k = absurd k
 each_over (x ∷ ks) (m ∷ ms) over k = (record { all_given = k.0.given; run_out = over.0.run_out }, each_over ks ms over.1 k.1)
 
-waits_of : (busy : Bool) (f : Frame) (place : ℕ) (ks ls : List Seeker) (progress : Progress) (s : Shown) (until : ℕ) → WaitsFor ks progress until busy → KeepsProgress f progress place None s → AllZip KeepsMine ks s.each → (busy ≡ false → map whose ls ≡ map whose ks) → MayWait (cond busy 0 f.wanted) (map whose ls) s until
-waits_of busy f place ks ls progress s until (waits_replies is some waits few) st k same =
+waits_of : (busy : Bool) (f : Frame) (place : ℕ) (ks ls : List Seeker) (progress : Progress) (s : Shown) (until : ℕ) → WaitsFor ks progress until busy → KeepsProgress f progress place None s → KeepsSaying busy (cond busy [] f.follows) progress s → AllZip KeepsMine ks s.each → (busy ≡ false → map whose ls ≡ map whose ks) → MayWait (cond busy 0 f.wanted) (cond busy [] f.follows) (map whose ls) s until
+waits_of busy f place ks ls progress s until (waits_replies is some waits few) st sy k same =
     for_replies (some_shown ks s.each k some)
     (subst (λ n. WaitsUntil n s.moment (deadlines_of s.each) until) (sym st.receives) (subst (λ m. WaitsUntil progress.receives m (deadlines_of s.each) until) (sym st.moment)
     (subst (λ l. WaitsUntil progress.receives progress.moment l until) (sym (same_deadlines ks s.each k)) waits)))
-waits_of busy f place ks ls progress s until (waits_others is none over left before waits) st k same =
+waits_of busy f place ks ls progress s until (waits_follow_ups is none over one waits) st sy k same =
+    for_follow_ups (sy.some is one) (none_shown ks s.each k none) (subst (λ ws. AllZip IsOver ws s.each) (sym (same is)) (each_over ks s.each over k)) (λ z. one (sym st.receives ∙ z)) (waits ∙ sym st.moment)
+waits_of busy f place ks ls progress s until (waits_others is none over unsaid round left before waits) st sy k same =
     let still : 0 < f.wanted - s.made = subst (λ n. 0 < n) (sym st.left) left in
-    for_others (none_shown ks s.each k none) (subst (λ ws. AllZip IsOver ws s.each) (sym (same is)) (each_over ks s.each over k)) (subst (λ b. s.made < cond b 0 f.wanted) (sym is) (omega (arith, still)))
+    let within = sy.within in
+    let kept = sy.left in
+    for_others (none_shown ks s.each k none) (subst (λ ws. AllZip IsOver ws s.each) (sym (same is)) (each_over ks s.each over k)) (omega (arith, within, kept, unsaid)) (st.receives ∙ round) (subst (λ b. s.made < cond b 0 f.wanted) (sym is) (omega (arith, still)))
     (subst (λ m. is_over s.ends m ≡ false) (sym st.moment) (subst (λ o. is_over o progress.moment ≡ false) (sym st.ends) before))
     (waits ∙ ap (λ o. waits_to o progress.moment) (sym st.ends) ∙ ap (waits_to s.ends) (sym st.moment))
 
-receives_of : (busy : Bool) (f : Frame) (place : ℕ) (ks ls : List Seeker) (progress : Progress) (s : Shown) (until : ℕ) → MayReceive ks progress until busy → KeepsProgress f progress place None s → AllZip KeepsMine ks s.each → AllZip Longer ks ls → (busy ≡ false → map whose ls ≡ map whose ks) → Receives (cond busy 0 f.wanted) (map whose ls) s until
-receives_of busy f place ks ls progress s until may st k g same = record {
+receives_of : (busy : Bool) (f : Frame) (place : ℕ) (ks ls : List Seeker) (progress : Progress) (s : Shown) (until : ℕ) → MayReceive ks progress until busy → KeepsProgress f progress place None s → KeepsSaying busy (cond busy [] f.follows) progress s → AllZip KeepsMine ks s.each → AllZip Longer ks ls → (busy ≡ false → map whose ls ≡ map whose ks) → Receives (cond busy 0 f.wanted) (cond busy [] f.follows) (map whose ls) s until
+receives_of busy f place ks ls progress s until may st sy k g same = record {
   none_owed = st.owed_is;
-  waits = waits_of busy f place ks ls progress s until may.waits st k same;
+  waits = waits_of busy f place ks ls progress s until may.waits st sy k same;
   asked = subst (λ n. AllHaveAsked n (map whose ls) s.each) (sym st.receives) (all_asked progress.receives ks ls s.each may.in_turn k g);
 }
+
+-- what is left of the follow-ups stays, and where no lookup is open no round goes on
+saying_on : (busy : Bool) (follows : List FollowUp) (progress progress' : Progress) (s t : Shown) → KeepsSaying busy follows progress s → t.followed ≡ s.followed → progress'.unsaid ≡ progress.unsaid → (busy ≡ false → progress'.receives ≡ 0) → KeepsSaying busy follows progress' t
+saying_on busy follows progress progress' s t sy same unsaid over =
+    let within = sy.within in
+    let left = sy.left in
+    record { within = omega (arith, within, same); left = omega (arith, left, same, unsaid); some = λ idle one. absurd (one (over idle)) }
 
 -- ---- where no query is open nothing of a lookup changes
 
@@ -133,9 +145,25 @@ all_still at (o ∷ olds) [] e none = absurd e
 all_still at (o ∷ olds) (n ∷ news) e none =
     ap (λ w. w ∷ map whose news) (one_still at o n e.0 (none_front o.lookup.queries (queries_of olds) none)) ∙ ap (λ ws. whose o ∷ ws) (all_still at olds news e.1 (none_back o.lookup.queries (queries_of olds) none))
 
+-- and none is open afterwards
+all_closed : (at : ℕ) (olds news : List Seeker) → AllZip (Expires at) olds news → queries_of olds ≡ [] → queries_of news ≡ []
+all_closed at [] [] e none = refl
+all_closed at [] (n ∷ news) e none = absurd e
+all_closed at (o ∷ olds) [] e none = absurd e
+all_closed at (o ∷ olds) (n ∷ news) e none =
+    ap (λ l. l ++ queries_of news) (e.0.loses.queries ∙ ap (filter (λ (q : Query). nat_lt at q.deadline)) (none_front o.lookup.queries (queries_of olds) none)) ∙ all_closed at olds news e.1 (none_back o.lookup.queries (queries_of olds) none)
+
 none_open : (ks : List Seeker) (progress : Progress) (until : ℕ) (busy : Bool) → WaitsFor ks progress until busy → busy ≡ false → queries_of ks ≡ []
 none_open ks progress until busy (waits_replies is some waits few) idle = (let t : true ≡ false = sym is ∙ idle in absurd cc)
-none_open ks progress until busy (waits_others is none over left before waits) idle = none
+none_open ks progress until busy (waits_follow_ups is none over one waits) idle = none
+none_open ks progress until busy (waits_others is none over unsaid round left before waits) idle = none
+
+-- nor of what it gathered
+pub gathered_still : (at : ℕ) (olds news : List Seeker) → AllZip (Expires at) olds news → map (λ (k : Seeker). k.gathered) news ≡ map (λ (k : Seeker). k.gathered) olds
+gathered_still at [] [] e = refl
+gathered_still at [] (n ∷ news) e = absurd e
+gathered_still at (o ∷ olds) [] e = absurd e
+gathered_still at (o ∷ olds) (n ∷ news) e = ap (λ g. g ∷ map (λ (k : Seeker). k.gathered) news) e.0.gathered ∙ ap (λ gs. o.gathered ∷ gs) (gathered_still at olds news e.1)
 
 -- nobody takes a datagram where no query is open
 none_taken : (accepts : Accepts) (from : Addr) (bytes : List ℕ) (old mid : List Seeker) → TakesFirst accepts from bytes old mid → queries_of old ≡ [] → ⊥
@@ -155,11 +183,12 @@ none_taken accepts from bytes old mid t none = at_it t.before (subst (λ l. quer
 pub record GotOn (accepts : Accepts) (tags : Tags) (server : ServeSetting) (busy : Bool) (from : Addr) (bytes : List ℕ) (at : ℕ) (old new : List Seeker) (progress progress' : Progress) (until : ℕ) (host host' : Hands) (owed : Option Owed) : Type 0 where
   pub more : Reading
   pub owners_are : more.owners ≡ []
+  pub none_told : more.told ≡ []
   pub goes : (f : Frame) (count place : ℕ) (read : Reading) (events : List Event) → f.accepts ≡ accepts → f.tags ≡ tags → f.server ≡ server → ManyShow busy f count old progress place None read events
       → ManyShow busy f count new progress' place owed (and_then read more) (events ++ Got from bytes until at ∷ [])
   pub ran : Ran host host' more.did more.lost
 
-progress_got : (f : Frame) (progress progress' : Progress) (place at foreign foreign' : ℕ) (owed : Option Owed) (s : Shown) (ns : List Mine) (ls : List Seeker) → KeepsProgress f progress place None s → foreign ≡ foreign' → progress' ≡ record { moment = at; receives = goes_on progress.receives (length (queries_of ls)); foreign = foreign'; left = progress.left - 1; end = progress.end; received = progress.received + 1; replied = progress.replied } → AllZip KeepsMine ls ns
+progress_got : (f : Frame) (progress progress' : Progress) (place at foreign foreign' : ℕ) (owed : Option Owed) (s : Shown) (ns : List Mine) (ls : List Seeker) → KeepsProgress f progress place None s → foreign ≡ foreign' → progress' ≡ record { moment = at; receives = goes_on progress.receives (length (queries_of ls)); foreign = foreign'; left = progress.left - 1; end = progress.end; received = progress.received + 1; replied = progress.replied; unsaid = progress.unsaid } → AllZip KeepsMine ls ns
     → KeepsProgress f progress' place owed (after_got s at foreign owed ns)
 progress_got f progress progress' place at foreign foreign' owed s ns ls st same is k =
     let left = st.left in
@@ -168,18 +197,19 @@ progress_got f progress progress' place at foreign foreign' owed s ns ls st same
 
 -- what is read of a receive
 lost_read : List Did → List Contact → Reading
-lost_read did lost = record { owners = []; did = did; lost = lost }
+lost_read did lost = record { owners = []; did = did; lost = lost; told = [] }
 
 read_is_of : (did : List Did) (lost : List Contact) (ns : List Mine) → flat_map (λ (n : Mine). n.lost) ns ≡ lost → lost_read did lost ≡ read_of did ns
 unfolding lost_read
-read_is_of did lost ns e = same_reading (lost_read did lost) (read_of did ns) refl refl (sym e)
+read_is_of did lost ns e = same_reading (lost_read did lost) (read_of did ns) refl refl (sym e) refl
 
 -- while a query is open the one more isn't the last that is taken
 few_more : (ks : List Seeker) (progress counted : Progress) (until : ℕ) (busy : Bool) → WaitsFor ks progress until busy → Counts busy progress counted → queries_of ks ≢ [] → progress.foreign + 1 < max_strays
 few_more ks progress counted until busy (waits_replies is some waits few) counts any =
     let is_more : counted.foreign ≡ progress.foreign + 1 = ap (λ (l : Progress). l.foreign) counts.0 in
     subst (λ n. n < max_strays) is_more (counts.1 is)
-few_more ks progress counted until busy (waits_others is none over left before waits) counts any = absurd (any none)
+few_more ks progress counted until busy (waits_follow_ups is none over one waits) counts any = absurd (any none)
+few_more ks progress counted until busy (waits_others is none over unsaid round left before waits) counts any = absurd (any none)
 
 module _ (accepts : Accepts) (tags : Tags) (server : ServeSetting) (busy : Bool) (from : Addr) (bytes : List ℕ) (until at : ℕ) (old new : List Seeker) (progress progress' : Progress) (host host' : Hands) where
   -- where a lookup takes it
@@ -188,6 +218,7 @@ module _ (accepts : Accepts) (tags : Tags) (server : ServeSetting) (busy : Bool)
   got_taken c may t counted between = record {
     more = lost_read [] (all_lapsed at c.mid);
     owners_are = refl;
+    none_told = refl;
     goes = λ f count place read events ea et es h.
         let s = h.end in
         let st = h.keeps_progress in
@@ -196,7 +227,7 @@ module _ (accepts : Accepts) (tags : Tags) (server : ServeSetting) (busy : Bool)
         let same : busy ≡ false → map whose new ≡ map whose old = (λ idle. absurd (none_taken accepts from bytes old c.mid t (none_open old progress until busy may.waits idle))) in
         let same_foreign : s.foreign ≡ c.counted.foreign = st.foreign ∙ sym (ap (λ (l : Progress). l.foreign) counted) in
         shows_more busy f count place place None None read (lost_read [] (all_lapsed at c.mid)) old new progress progress' (Got from bytes until at) events h (after_got s at s.foreign None first.after) on.longer same (
-          receives_of busy f place old new progress s until may st h.keeps_each on.longer same,
+          receives_of busy f place old new progress s until may st h.keeps_saying h.keeps_each on.longer same,
           inl (record {
             each = first.after;
             first = subst (λ a. FirstTakes a from bytes at (map whose new) s.each first.after) (sym ea) (first_longer accepts from bytes at old new s.each first.after on.longer first.first);
@@ -204,7 +235,8 @@ module _ (accepts : Accepts) (tags : Tags) (server : ServeSetting) (busy : Bool)
             after = refl;
           }),
         )
-        (progress_got f progress progress' place at s.foreign c.counted.foreign None s first.after new st same_foreign c.progress_is on.keeps) on.keeps;
+        (progress_got f progress progress' place at s.foreign c.counted.foreign None s first.after new st same_foreign c.progress_is on.keeps) on.keeps
+        (saying_on busy (cond busy [] f.follows) progress progress' s (after_got s at s.foreign None first.after) h.keeps_saying refl (ap (λ (l : Progress). l.unsaid) c.progress_is) (λ idle. absurd (none_taken accepts from bytes old c.mid t (none_open old progress until busy may.waits idle))));
     ran = subst (λ h. Ran h host' [] (all_lapsed at c.mid)) between c.ran;
   }
 
@@ -215,6 +247,7 @@ module _ (accepts : Accepts) (tags : Tags) (server : ServeSetting) (busy : Bool)
   got_foreign owed c may none mid counts answers = record {
     more = lost_read answers.did (all_lapsed at old);
     owners_are = refl;
+    none_told = refl;
     goes = λ f count place read events ea et es h.
         let s = h.end in
         let st = h.keeps_progress in
@@ -224,7 +257,7 @@ module _ (accepts : Accepts) (tags : Tags) (server : ServeSetting) (busy : Bool)
         let few : open_of s.each ≢ [] → s.foreign + 1 < max_strays = (λ some. subst (λ n. n + 1 < max_strays) (sym st.foreign) (few_more old progress c.counted until busy may.waits counts (λ none. some (none_shown old s.each h.keeps_each none)))) in
         let more_foreign : s.foreign + 1 ≡ c.counted.foreign = ap (λ n. n + 1) st.foreign ∙ sym (ap (λ (l : Progress). l.foreign) counts.0) in
         shows_more busy f count place place None owed read (lost_read answers.did (all_lapsed at old)) old new progress progress' (Got from bytes until at) events h (after_got s at (s.foreign + 1) owed (map (waited at) s.each)) on.longer same (
-          receives_of busy f place old new progress s until may st h.keeps_each on.longer same,
+          receives_of busy f place old new progress s until may st h.keeps_saying h.keeps_each on.longer same,
           inr (record {
             foreign = subst (λ a. IsForeign a from bytes (map whose new) s.each) (sym ea) (foreign_longer accepts from bytes old new s.each on.longer (all_stray accepts from bytes old s.each h.keeps_each none));
             did = answers.did;
@@ -235,7 +268,9 @@ module _ (accepts : Accepts) (tags : Tags) (server : ServeSetting) (busy : Bool)
             after = refl;
           }),
         )
-        (progress_got f progress progress' place at (s.foreign + 1) c.counted.foreign owed s (map (waited at) s.each) new st more_foreign c.progress_is on.keeps) on.keeps;
+        (progress_got f progress progress' place at (s.foreign + 1) c.counted.foreign owed s (map (waited at) s.each) new st more_foreign c.progress_is on.keeps) on.keeps
+        (saying_on busy (cond busy [] f.follows) progress progress' s (after_got s at (s.foreign + 1) owed (map (waited at) s.each)) h.keeps_saying refl (ap (λ (l : Progress). l.unsaid) c.progress_is)
+        (λ idle. ap (λ (l : Progress). l.receives) c.progress_is ∙ ap (λ qs. goes_on progress.receives (length qs)) (all_closed at old new expires (none_open old progress until busy may.waits idle))));
     ran = subst (λ d. Ran host host' d (all_lapsed at old)) (append-nil answers.did) (ran_then host c.between host' answers.did [] [] (all_lapsed at old) answers.same (ran_answer host c.between answers.did answers.grew (had_memory tags server from bytes at answers.did owed answers.owes)) (subst (λ l. Ran c.between host' [] (all_lapsed at l)) mid c.ran));
   }
 
@@ -250,7 +285,7 @@ module _ (accepts : Accepts) (tags : Tags) (server : ServeSetting) (busy : Bool)
 -- ---- its reply
 
 pub same_longer : (k : Seeker) → Longer k k
-same_longer k = record { more = []; quest = refl; setting = refl; journal = sym (append-nil k.lookup.book.journal) }
+same_longer k = record { more = []; quest = refl; setting = refl; journal = sym (append-nil k.lookup.book.journal); gathered = λ is. refl }
 
 pub all_longer : (ks : List Seeker) → AllZip Longer ks ks
 all_longer [] = tt
@@ -261,13 +296,15 @@ paid : (busy : Bool) (f : Frame) (count place : ℕ) (read : Reading) (ks : List
 paid busy f count place read ks progress owed es true h =
     let st = h.keeps_progress in
     let t : Shown = record h.end { owed = None; replied = h.end.replied + 1 } in
-    shows_more busy f count place place (Some owed) None read nothing_read ks ks progress (after_paid progress true) (Sent owed.to owed.reply) es h t (all_longer ks) (λ idle. refl) (inr (record { owes = st.owed_is; nothing = refl; after = refl }))
+    shows_more busy f count place place (Some owed) None read nothing_read ks ks progress (after_paid progress true) (Sent owed.to owed.reply) es h t (all_longer ks) (λ idle. refl) (inr (inl (record { owes = st.owed_is; nothing = refl; after = refl })))
     (record { moment = st.moment; ends = st.ends; sends = st.sends; got = st.got; foreign = st.foreign; replied = ap (λ n. n + 1) st.replied; receives = st.receives; left = st.left; owed_is = refl }) h.keeps_each
+    (record { within = h.keeps_saying.within; left = h.keeps_saying.left; some = h.keeps_saying.some })
 paid busy f count place read ks progress owed es false h =
     let st = h.keeps_progress in
     let t : Shown = record h.end { owed = None } in
-    shows_more busy f count place place (Some owed) None read nothing_read ks ks progress progress (Unsent owed.to owed.reply) es h t (all_longer ks) (λ idle. refl) (inr (record { owes = st.owed_is; nothing = refl; after = refl }))
+    shows_more busy f count place place (Some owed) None read nothing_read ks ks progress progress (Unsent owed.to owed.reply) es h t (all_longer ks) (λ idle. refl) (inr (inl (record { owes = st.owed_is; nothing = refl; after = refl })))
     (record { moment = st.moment; ends = st.ends; sends = st.sends; got = st.got; foreign = st.foreign; replied = st.replied; receives = st.receives; left = st.left; owed_is = refl }) h.keeps_each
+    (record { within = h.keeps_saying.within; left = h.keeps_saying.left; some = h.keeps_saying.some })
 
 -- the reply that is owed is sent, and then none is
 pays_on : (busy : Bool) (f : Frame) (count place : ℕ) (read : Reading) (ks : List Seeker) (progress : Progress) (owed : Option Owed) (was_sent : Bool) (es fs : List Event) → Pays owed was_sent fs → ManyShow busy f count ks progress place owed read es → ManyShow busy f count ks (after_paid progress was_sent) place None read (es ++ fs)
@@ -284,6 +321,7 @@ pub got_advances : (accepts : Accepts) (tags : Tags) (server : ServeSetting) (bu
 got_advances accepts tags server busy from bytes until at old new progress progress' after host host' owed was_sent words told mid told' paid on got pays = record {
   more = on.more;
   owners_are = on.owners_are;
+  none_told = on.none_told;
   goes = λ f count read began is h.
       grows_then began mid told' _ _ _
       (grows_then began told mid _ _ _ h got (λ es fs shows e. subst (λ l. ManyShow busy f count new progress' words.place owed (and_then read on.more) (es ++ l)) (sym e) (on.goes f count words.place read es is.accepts_is is.tags_is is.server_is shows)))
@@ -302,8 +340,9 @@ quiet_on busy until at old new progress progress' host host' f count place read 
     let on = all_wait at old new s.each may.holds h.keeps_each c.expires in
     let same : busy ≡ false → map whose new ≡ map whose old = (λ idle. all_still at old new c.expires (none_open old progress until busy may.waits idle)) in
     shows_more busy f count place place None None read (lost_read [] (all_lapsed at old)) old new progress progress' (Quiet until at) es h (after_quiet s at) on.longer same
-    (receives_of busy f place old new progress s until may st h.keeps_each on.longer same, read_is_of [] (all_lapsed at old) (map (waited at) s.each) on.lost, refl)
+    (receives_of busy f place old new progress s until may st h.keeps_saying h.keeps_each on.longer same, read_is_of [] (all_lapsed at old) (map (waited at) s.each) on.lost, refl)
     (subst (λ (l : Progress). KeepsProgress f l place None (after_quiet s at)) (sym c.progress_is) (record { moment = refl; ends = st.ends; sends = st.sends; got = st.got; foreign = st.foreign; replied = st.replied; receives = refl; left = omega (arith, left); owed_is = refl })) on.keeps
+    (saying_on busy (cond busy [] f.follows) progress progress' s (after_quiet s at) h.keeps_saying refl (ap (λ (l : Progress). l.unsaid) c.progress_is) (λ idle. ap (λ (l : Progress). l.receives) c.progress_is))
 
 pub quiet_advances : (accepts : Accepts) (tags : Tags) (server : ServeSetting) (busy : Bool) (until at : ℕ) (old new : List Seeker) (progress progress' : Progress) (host host' : Hands) (words : WordsState) (told told' : Option (List Event))
     → MayReceive old progress until busy → Passes at old new progress progress' host host' → Grows told told' (λ es. es ≡ Quiet until at ∷ []) → Advances busy [] accepts tags server (stand old progress words host told) (stand new progress' words host' told')
@@ -311,6 +350,7 @@ unfolding lost_read
 quiet_advances accepts tags server busy until at old new progress progress' host host' words told told' may c quiet = record {
   more = lost_read [] (all_lapsed at old);
   owners_are = refl;
+  none_told = refl;
   goes = λ f count read began is h. grows_then began told told' _ _ _ h quiet (λ es fs shows e. subst (λ l. ManyShow busy f count new progress' words.place None (and_then read (lost_read [] (all_lapsed at old))) (es ++ l)) (sym e) (quiet_on busy until at old new progress progress' host host' f count words.place read es may c shows));
   ran = c.ran;
   seed = refl;
@@ -353,7 +393,8 @@ record Counted (busy : Bool) (old mid : List Seeker) (progress counted : Progres
 
 few_while : (ks : List Seeker) (progress : Progress) (until : ℕ) (busy : Bool) → WaitsFor ks progress until busy → busy ≡ true → progress.foreign < max_strays
 few_while ks progress until busy (waits_replies is some waits few) is_busy = few
-few_while ks progress until busy (waits_others is none over left before waits) is_busy = (let t : true ≡ false = sym is_busy ∙ is in absurd cc)
+few_while ks progress until busy (waits_follow_ups is none over one waits) is_busy = (let t : true ≡ false = sym is_busy ∙ is in absurd cc)
+few_while ks progress until busy (waits_others is none over unsaid round left before waits) is_busy = (let t : true ≡ false = sym is_busy ∙ is in absurd cc)
 
 counted_of : (accepts : Accepts) (tags : Tags) (server : ServeSetting) (busy : Bool) (from : Addr) (bytes : List ℕ) (at : ℕ) (old mid : List Seeker) (progress counted : Progress) (host between : Hands) (owed : Option Owed) → (busy ≡ true → progress.foreign < max_strays) → Handles accepts tags server busy from bytes at old mid progress counted host between owed → Counted busy old mid progress counted
 counted_of accepts tags server busy from bytes at old mid progress counted host between owed few (is_taken t is b o) =
@@ -376,6 +417,7 @@ mid_longer at (o ∷ olds) (m ∷ mids) (n ∷ news) g e = (
     quest = e.0.quest ∙ g.0.quest;
     setting = e.0.loses.setting ∙ g.0.setting;
     journal = e.0.loses.journal ∙ ap (λ J. J ++ closed_at at (opens m)) g.0.journal ∙ append_assoc o.lookup.book.journal g.0.more (closed_at at (opens m));
+    gathered = λ is. e.0.gathered ∙ g.0.gathered is;
   },
   mid_longer at olds mids news g.1 e.1,
 )
@@ -383,7 +425,7 @@ mid_longer at (o ∷ olds) (m ∷ mids) (n ∷ news) g e = (
 taken_longer : (accepts : Accepts) (from : Addr) (bytes : List ℕ) (before behind : List Seeker) (one after : Seeker) → IsMatchFor accepts from bytes one after → AllZip Longer (before ++ one ∷ behind) (before ++ after ∷ behind)
 taken_longer accepts from bytes [] behind one after m =
     let h = m.matches in
-    (record { more = h.hears.entry ∷ []; quest = m.quest; setting = ap (λ (b : BookState). b.setting) h.hears.after; journal = ap (λ (b : BookState). b.journal) h.hears.after }, all_longer behind)
+    (record { more = h.hears.entry ∷ []; quest = m.quest; setting = ap (λ (b : BookState). b.setting) h.hears.after; journal = ap (λ (b : BookState). b.journal) h.hears.after; gathered = λ is. kept_find one.quest.kind m.heard one.gathered after.gathered is m.gathers }, all_longer behind)
 taken_longer accepts from bytes (k ∷ before) behind one after m = (same_longer k, taken_longer accepts from bytes before behind one after m)
 
 handled_longer : (accepts : Accepts) (tags : Tags) (server : ServeSetting) (busy : Bool) (from : Addr) (bytes : List ℕ) (at : ℕ) (old mid : List Seeker) (progress counted : Progress) (host between : Hands) (owed : Option Owed) → Handles accepts tags server busy from bytes at old mid progress counted host between owed → AllZip Longer old mid
@@ -395,14 +437,6 @@ handled_longer accepts tags server busy from bytes at old mid progress counted h
 handled_idle : (accepts : Accepts) (tags : Tags) (server : ServeSetting) (busy : Bool) (from : Addr) (bytes : List ℕ) (at : ℕ) (old mid : List Seeker) (progress counted : Progress) (host between : Hands) (owed : Option Owed) → Handles accepts tags server busy from bytes at old mid progress counted host between owed → queries_of old ≡ [] → mid ≡ old
 handled_idle accepts tags server busy from bytes at old mid progress counted host between owed (is_taken t is b o) none = absurd (none_taken accepts from bytes old mid t none)
 handled_idle accepts tags server busy from bytes at old mid progress counted host between owed (is_foreign none m counts answers) idle = m
-
--- and none is open afterwards
-all_closed : (at : ℕ) (olds news : List Seeker) → AllZip (Expires at) olds news → queries_of olds ≡ [] → queries_of news ≡ []
-all_closed at [] [] e none = refl
-all_closed at [] (n ∷ news) e none = absurd e
-all_closed at (o ∷ olds) [] e none = absurd e
-all_closed at (o ∷ olds) (n ∷ news) e none =
-    ap (λ l. l ++ queries_of news) (e.0.loses.queries ∙ ap (filter (λ (q : Query). nat_lt at q.deadline)) (none_front o.lookup.queries (queries_of olds) none)) ∙ all_closed at olds news e.1 (none_back o.lookup.queries (queries_of olds) none)
 
 handled_only : (accepts : Accepts) (tags : Tags) (server : ServeSetting) (busy : Bool) (from : Addr) (bytes : List ℕ) (at : ℕ) (old mid : List Seeker) (progress counted : Progress) (host between : Hands) (owed : Option Owed) → Handles accepts tags server busy from bytes at old mid progress counted host between owed → AllZip OnlyHeard old mid
 handled_only accepts tags server busy from bytes at old mid progress counted host between owed (is_taken t is b o) = first_taken accepts from bytes old mid t
@@ -442,9 +476,11 @@ come_received accepts tags server busy from bytes until at old new progress prog
       few_receives = subst (λ m. m < max_round_receives) (sym receives) (few_next n k);
       still = λ some none. (goes_more n k (λ z. some (receives ∙ z))).some (ap length none);
       left = ap (λ (l : Progress). l.left) c.progress_is;
+      unsaid = ap (λ (l : Progress). l.unsaid) c.progress_is;
       foreign = omega (arith, same_foreign, most);
       few_foreign = λ is_busy. subst (λ m. m < max_strays) (sym same_foreign) (counted.few is_busy);
       same = λ idle. all_still at old new (expires_idle idle) (none_open old progress until busy may.waits idle);
+      same_gathered = λ idle. gathered_still at old new (expires_idle idle);
       none_open = λ idle. all_closed at old new (expires_idle idle) (none_open old progress until busy may.waits idle);
     }
 
@@ -479,9 +515,11 @@ quiet_received busy until at old new progress progress' host host' may c =
       few_receives = omega (arith, receives);
       still = λ some none. absurd (some receives);
       left = ap (λ (l : Progress). l.left) c.progress_is;
+      unsaid = ap (λ (l : Progress). l.unsaid) c.progress_is;
       foreign = omega (arith, same_foreign);
       few_foreign = λ is_busy. subst (λ m. m < max_strays) (sym same_foreign) (few_while old progress until busy may.waits is_busy);
       same = λ idle. all_still at old new c.expires (none_open old progress until busy may.waits idle);
+      same_gathered = λ idle. gathered_still at old new c.expires;
       none_open = λ idle. all_closed at old new c.expires (none_open old progress until busy may.waits idle);
     }
 
@@ -527,7 +565,8 @@ ends_by_foreign busy accepts tags server from bytes until at old told' may last 
   where
     some_waits : (ks : List Seeker) (progress : Progress) (until : ℕ) (busy : Bool) → WaitsFor ks progress until busy → busy ≡ true → queries_of ks ≢ []
     some_waits ks progress until busy (waits_replies is some waits few) is_busy = some
-    some_waits ks progress until busy (waits_others is none over left before waits) is_busy = (let t : true ≡ false = sym is_busy ∙ is in absurd cc)
+    some_waits ks progress until busy (waits_follow_ups is none over one waits) is_busy = (let t : true ≡ false = sym is_busy ∙ is in absurd cc)
+    some_waits ks progress until busy (waits_others is none over unsaid round left before waits) is_busy = (let t : true ≡ false = sym is_busy ∙ is in absurd cc)
 
 -- what holds of each lookup before the time passes
 pub handled_hold : (accepts : Accepts) (tags : Tags) (server : ServeSetting) (busy : Bool) (from : Addr) (bytes : List ℕ) (at : ℕ) (old mid : List Seeker) (progress counted : Progress) (host between : Hands) (owed : Option Owed) → AllByRecursion Holding old → Handles accepts tags server busy from bytes at old mid progress counted host between owed → AllByRecursion Holding mid

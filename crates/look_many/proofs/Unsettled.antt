@@ -1,14 +1,10 @@
 -- How many of the first lookups have something to settle: none, one, or more.
-use Rattle.std.proofs.Common.{◌≡◌, ◌≢◌, ◌<◌, ◌≤◌, ◌+◌, ℕ, List, [], length, get_or, set, Bool, true, false, inl, inr, refl, ap, subst, ◌∙◌, arith}
-use Rattle.std.specs.Prelude.{slice_get}
+use Rattle.std.proofs.Common.{◌≡◌, ◌≢◌, ◌<◌, ◌≤◌, ◌+◌, ℕ, List, [], length, get_or, set, Bool, true, false, inl, inr, ap, subst, ◌∙◌, arith}
 use Rattle.std.proofs.lemmas.Bool.{cases_lt}
 use Rattle.std.proofs.lemmas.List.{get_or_default, set-get_or}
 use Rattle.kad_base.specs.Limits.{max_paths}
 use Rattle.claim_book.specs.declared.types.Entry.{Entry}
-use Rattle.claim_book.specs.declared.calls.BookReply.{BookReply}
-use Rattle.claim_book.specs.declared.calls.BookReply.TheVariants.{Alive, Report as Report_reply, Idle}
-use Rattle.claim_book.specs.Calls.{PullStep}
-use Rattle.claim_book.specs.Journal.{unsettled, first_unsettled}
+use Rattle.claim_book.specs.Journal.{unsettled}
 use Rattle.look_many.specs.declared.seeker.Seeker.{Seeker}
 use Rattle.look_many.specs.inner.SettleSteps.{HasSome, SeveralHaveSome}
 

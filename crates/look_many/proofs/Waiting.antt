@@ -1,14 +1,13 @@
 -- The time passes for all lookups, and how long the next receive waits.
-use Rattle.std.proofs.Common.{◌≡◌, ◌⊎◌, ℕ, ◌+◌, ◌<◌, ◌≤◌, List, [], ◌∷◌, ◌++◌, length, get_or, take, drop, set, min, Option, Some, None, inl, inr, refl, sym, ap, subst, ◌∙◌, arith}
-use Rattle.std.specs.Prelude.{Contains, map, slice_get, IfSome, IsNone, ◌↔◌}
-use Rattle.std.specs.Option.{option_map}
-use Rattle.std.specs.List.{All, AllByRecursion, AllZip}
+use Rattle.std.proofs.Common.{◌≡◌, ◌⊎◌, ℕ, ◌+◌, ◌<◌, ◌≤◌, List, [], ◌∷◌, ◌++◌, length, get_or, take, drop, set, min, Option, Some, None, inl, inr, sym, ap, subst, ◌∙◌, arith}
+use Rattle.std.specs.Prelude.{Contains, map}
+use Rattle.std.specs.List.{AllByRecursion, AllZip}
 use Rattle.std.proofs.lemmas.List.{append-nil, take_more, take_more_set, drop_more, drop-set-lt, take_all, length-set, flat_map_more}
-use Rattle.std.proofs.lemmas.List.Elements.{AllZip-push, recursion_from_All}
+use Rattle.std.proofs.lemmas.List.Elements.{AllZip-push}
 use Rattle.query_book.specs.declared.Query.{Query}
 use Rattle.serve_crew.specs.Hands.{Hands, SameHands}
 use Rattle.serve_crew.proofs.Growing.{same_more}
-use Rattle.lookup_core.proofs.Lists.{map_append, all_append, all_weaker, in_first}
+use Rattle.lookup_core.proofs.Lists.{map_append, all_append, all_weaker}
 use Rattle.look_many.specs.declared.seeker.Seeker.{Seeker}
 use Rattle.look_many.specs.Many.{IsEarliest}
 use Rattle.look_many.specs.inner.Crowd.{Holding, queries_of, Ran}

@@ -1,6 +1,6 @@
 -- What the events show goes on, event by event, while the journals grow.
 use Rattle.std.proofs.Common.{◌≡◌, ◌⊎◌, ℕ, zero, suc, ◌<◌, List, [], ◌∷◌, ◌++◌, Option, None, Bool, true, false, inl, inr, refl, sym, ap, subst, ◌∙◌, arith}
-use Rattle.std.specs.Prelude.{map}
+use Rattle.std.specs.Prelude.{map, cond, slice_get, Some}
 use Rattle.std.specs.List.{AllZip}
 use Rattle.std.proofs.lemmas.List.{append-nil, append_assoc}
 use Rattle.kad_base.specs.declared.types.Addr.{Addr}
@@ -11,25 +11,27 @@ use Rattle.claim_book.specs.Journal.{may_ask}
 use Rattle.lookup_core.specs.declared.quest.Quest.{Quest}
 use Rattle.lookup_core.specs.Matching.{IsStray}
 use Rattle.lookup_core.specs.Sealed.{Accepts}
+use Rattle.look_many.specs.declared.follow.FollowUp.{FollowUp}
 use Rattle.look_many.specs.declared.seeker.Seeker.{Seeker}
 use Rattle.look_many.specs.declared.seeker.Progress.{Progress}
 use Rattle.look_many.specs.Mine.{Mine, Whose, HasAsked, HaveAsked, SentGives, UnsentGives, MatchGives}
-use Rattle.look_many.specs.Many.{Frame, Owed, Shown, Reading, nothing_read, and_then, OneMoves, AsksOne, MayWait, for_replies, for_others, AllHaveAsked, Receives, FirstTakes, IsForeign, IsTaken, IsAnsweredFor, Gives, GivesFrom, begun}
-use Rattle.look_many.specs.inner.Crowd.{whose, Longer, KeepsMine, framed, KeepsProgress, ManyShow}
+use Rattle.look_many.specs.Many.{Frame, Owed, Shown, Reading, nothing_read, and_then, OneMoves, AsksOne, MayWait, for_replies, for_follow_ups, for_others, AllHaveAsked, Receives, FirstTakes, IsForeign, IsTaken, IsAnsweredFor, SaysNext, Gives, GivesFrom, begun}
+use Rattle.look_many.specs.inner.Crowd.{whose, Longer, KeepsMine, framed, KeepsProgress, KeepsSaying, ManyShow}
 
 -- ---- readings
 
-pub same_reading : (a b : Reading) → a.owners ≡ b.owners → a.did ≡ b.did → a.lost ≡ b.lost → a ≡ b
-same_reading a b o d l =
-    ap (λ x. record { owners = x; did = a.did; lost = a.lost }) o
-    ∙ ap (λ x. record { owners = b.owners; did = x; lost = a.lost }) d
-    ∙ ap (λ x. record { owners = b.owners; did = b.did; lost = x }) l
+pub same_reading : (a b : Reading) → a.owners ≡ b.owners → a.did ≡ b.did → a.lost ≡ b.lost → a.told ≡ b.told → a ≡ b
+same_reading a b o d l t =
+    ap (λ x. record { owners = x; did = a.did; lost = a.lost; told = a.told }) o
+    ∙ ap (λ x. record { owners = b.owners; did = x; lost = a.lost; told = a.told }) d
+    ∙ ap (λ x. record { owners = b.owners; did = b.did; lost = x; told = a.told }) l
+    ∙ ap (λ x. record { owners = b.owners; did = b.did; lost = b.lost; told = x }) t
 
 pub nothing_after : (a : Reading) → and_then a nothing_read ≡ a
-nothing_after a = same_reading (and_then a nothing_read) a (append-nil a.owners) (append-nil a.did) (append-nil a.lost)
+nothing_after a = same_reading (and_then a nothing_read) a (append-nil a.owners) (append-nil a.did) (append-nil a.lost) (append-nil a.told)
 
 pub then_assoc : (a b c : Reading) → and_then (and_then a b) c ≡ and_then a (and_then b c)
-then_assoc a b c = same_reading (and_then (and_then a b) c) (and_then a (and_then b c)) (append_assoc a.owners b.owners c.owners) (append_assoc a.did b.did c.did) (append_assoc a.lost b.lost c.lost)
+then_assoc a b c = same_reading (and_then (and_then a b) c) (and_then a (and_then b c)) (append_assoc a.owners b.owners c.owners) (append_assoc a.did b.did c.did) (append_assoc a.lost b.lost c.lost) (append_assoc a.told b.told c.told)
 
 -- ---- longer journals
 
@@ -60,11 +62,12 @@ all_have_longer : (n : ℕ) (ks ls : List Seeker) (ms : List Mine) → AllZip Lo
 all_have_longer zero ks ls ms g h = have_longer ks ls ms g h
 all_have_longer (suc n) ks ls ms g h = tt
 
-waits_longer : (ks ls : List Seeker) (s : Shown) (until : ℕ) → MayWait 0 (map whose ks) s until → MayWait 0 (map whose ls) s until
+waits_longer : (ks ls : List Seeker) (s : Shown) (until : ℕ) → MayWait 0 [] (map whose ks) s until → MayWait 0 [] (map whose ls) s until
 waits_longer ks ls s until (for_replies some waits) = for_replies some waits
-waits_longer ks ls s until (for_others none over fewer before is) = absurd (omega (arith, fewer))
+waits_longer ks ls s until (for_follow_ups some none over one is) = absurd (omega (arith, some))
+waits_longer ks ls s until (for_others none over said round fewer before is) = absurd (omega (arith, fewer))
 
-receives_longer : (ks ls : List Seeker) (s : Shown) (until : ℕ) → AllZip Longer ks ls → Receives 0 (map whose ks) s until → Receives 0 (map whose ls) s until
+receives_longer : (ks ls : List Seeker) (s : Shown) (until : ℕ) → AllZip Longer ks ls → Receives 0 [] (map whose ks) s until → Receives 0 [] (map whose ls) s until
 receives_longer ks ls s until g h = record { none_owed = h.none_owed; waits = waits_longer ks ls s until h.waits; asked = all_have_longer s.receives ks ls s.each g h.asked }
 
 pub first_longer : (accepts : Accepts) (from : Addr) (bytes : List ℕ) (at : ℕ) (ks ls : List Seeker) (ms ns : List Mine) → AllZip Longer ks ls → FirstTakes accepts from bytes at (map whose ks) ms ns → FirstTakes accepts from bytes at (map whose ls) ms ns
@@ -102,12 +105,21 @@ moves_longer G (suc i) (k ∷ ks) (l ∷ ls) (m ∷ ms) (n ∷ ns) g h = (h.0, m
 asks_longer : (G : Quest → Mine → Mine → Type 0) (ks ls : List Seeker) (s t : Shown) (read : Reading) → AllZip Longer ks ls → AsksOne (λ w m n. G w.quest m n) (map whose ks) s read t → AsksOne (λ w m n. G w.quest m n) (map whose ls) s read t
 asks_longer G ks ls s t read g h = record { owner = h.owner; owns = h.owns; none_owed = h.none_owed; each = h.each; moves = moves_longer G h.owner ks ls s.each h.each g h.moves; after = h.after }
 
+-- while lookups are open no follow-up is due
+pub none_due : (f : Frame) (ws : List Whose) (s t : Shown) (to : Addr) (bytes : List ℕ) (was_sent : Bool) (read : Reading) → SaysNext (framed true f) ws s to bytes was_sent read t → ⊥
+none_due f ws s t to bytes was_sent read h = nothing_there s.followed h.due h.next
+  where
+    nothing_there : (n : ℕ) (due : FollowUp) → slice_get {X = FollowUp} [] n ≡ Some due → ⊥
+    nothing_there n due e = absurd cc
+
 gives_longer : (f : Frame) (ks ls : List Seeker) (s t : Shown) (e : Event) (read : Reading) → AllZip Longer ks ls → Gives (framed true f) (map whose ks) s e read t → Gives (framed true f) (map whose ls) s e read t
 gives_longer f ks ls s t (Now at) read g h = h
 gives_longer f ks ls s t (Sent to bytes) read g (inl h) = inl (asks_longer (λ q m n. SentGives q _ _ m to bytes n) ks ls s t read g h)
-gives_longer f ks ls s t (Sent to bytes) read g (inr h) = inr h
+gives_longer f ks ls s t (Sent to bytes) read g (inr (inl h)) = inr (inl h)
+gives_longer f ks ls s t (Sent to bytes) read g (inr (inr h)) = absurd (none_due f (map whose ks) s t to bytes true read h)
 gives_longer f ks ls s t (Unsent to bytes) read g (inl h) = inl (asks_longer (λ q m n. UnsentGives q _ m to bytes n) ks ls s t read g h)
-gives_longer f ks ls s t (Unsent to bytes) read g (inr h) = inr h
+gives_longer f ks ls s t (Unsent to bytes) read g (inr (inl h)) = inr (inl h)
+gives_longer f ks ls s t (Unsent to bytes) read g (inr (inr h)) = absurd (none_due f (map whose ks) s t to bytes false read h)
 gives_longer f ks ls s t (Got from bytes until at) read g h = (receives_longer ks ls s until g h.0, pick h.1)
   where
     pick : IsTaken (framed true f) (map whose ks) s from bytes at read t ⊎ IsAnsweredFor (framed true f) (map whose ks) s from bytes at read t → IsTaken (framed true f) (map whose ls) s from bytes at read t ⊎ IsAnsweredFor (framed true f) (map whose ls) s from bytes at read t
@@ -131,8 +143,8 @@ walk_on f ws s [] m read e one t h step = (t, one, nothing_read, subst (λ (x : 
 walk_on f ws s (x ∷ es) m read e one t h step = (h.0, h.1, and_then h.2 one, h.3, walk_on f ws h.0 es m h.2 e one t h.4 step, ap (λ r. and_then r one) h.5 ∙ then_assoc h.1 h.2 one)
 
 pub shows_more : (busy : Bool) (f : Frame) (count place place' : ℕ) (owed owed' : Option Owed) (read one : Reading) (ks ls : List Seeker) (progress progress' : Progress) (e : Event) (es : List Event) (h : ManyShow busy f count ks progress place owed read es) (t : Shown) → AllZip Longer ks ls → (busy ≡ false → map whose ls ≡ map whose ks)
-    → Gives (framed busy f) (map whose ls) h.end e one t → KeepsProgress f progress' place' owed' t → AllZip KeepsMine ls t.each → ManyShow busy f count ls progress' place' owed' (and_then read one) (es ++ e ∷ [])
-shows_more busy f count place place' owed owed' read one ks ls progress progress' e es h t g same gives keeps_progress keeps_each = record {
+    → Gives (framed busy f) (map whose ls) h.end e one t → KeepsProgress f progress' place' owed' t → AllZip KeepsMine ls t.each → KeepsSaying busy (cond busy [] f.follows) progress' t → ManyShow busy f count ls progress' place' owed' (and_then read one) (es ++ e ∷ [])
+shows_more busy f count place place' owed owed' read one ks ls progress progress' e es h t g same gives keeps_progress keeps_each keeps_saying = record {
   at = h.at;
   rest = h.rest ++ e ∷ [];
   first = ap (λ l. l ++ e ∷ []) h.first;
@@ -140,4 +152,5 @@ shows_more busy f count place place' owed owed' read one ks ls progress progress
   walk = walk_on (framed busy f) (map whose ls) (begun f.minutes count h.at) h.rest h.end read e one t (walk_still busy f ks ls (begun f.minutes count h.at) h.rest h.end read g same h.walk) gives;
   keeps_progress = keeps_progress;
   keeps_each = keeps_each;
+  keeps_saying = keeps_saying;
 }

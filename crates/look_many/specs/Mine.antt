@@ -1,30 +1,34 @@
 -- What the events of a link show of one lookup, whatever else they show: its open queries, and the entries that they gave to
 -- its journal. Who may be asked, and when a path waits, is Kademlia's (2002, section 2.3) on each of S/Kademlia's disjoint
 -- paths (2007, section 4.4); answers and error messages are matched to queries by transaction id and source address (BEP 5).
-use Rattle.std.specs.Prelude.{◌≡◌, ℕ, ◌<◌, List, [], ◌∷◌, ◌++◌, map, filter, None, Bool, true, false}
+use Rattle.std.specs.Prelude.{◌≡◌, ℕ, ◌<◌, List, [], ◌∷◌, ◌++◌, map, filter, None, false}
 use Rattle.std.specs.List.{AllByRecursion}
 use Rattle.kad_base.specs.declared.types.Addr.{Addr}
 use Rattle.kad_base.specs.declared.types.Contact.{Contact}
 use Rattle.claim_book.specs.declared.types.Setting.{Setting}
 use Rattle.claim_book.specs.declared.types.Cause.TheVariants.{SendFault}
 use Rattle.claim_book.specs.declared.types.Entry.{Entry}
-use Rattle.claim_book.specs.declared.types.Entry.TheVariants.{Ask, Heard, Lost}
+use Rattle.claim_book.specs.declared.types.Entry.TheVariants.{Ask, Lost}
 use Rattle.claim_book.specs.Journal.{may_ask}
 use Rattle.claim_book.specs.Legal.{is_of}
 use Rattle.lookup_core.specs.declared.quest.Quest.{Quest}
+use Rattle.lookup_core.specs.Gathered.{HearsOne}
 use Rattle.lookup_core.specs.Matching.{OpenQuery, IsQuery, Matched}
+use Rattle.lookup_core.specs.Reply.{Answered}
 use Rattle.lookup_core.specs.Sealed.{Accepts}
 pub use Rattle.lookup_core.specs.Driven.{is_driven}
 unfoldable pub use Rattle.lookup_core.specs.Driven.{driven}
 use Rattle.lookup_core.specs.Timeouts.{is_overdue, closed_at, open_at}
 
 -- what the events so far show of a lookup: its open queries, oldest first; the entries that they gave to its journal, of these
--- the ones since the last receive, and the contacts that this receive lost by their deadlines
+-- the ones since the last receive, and the contacts that this receive lost by their deadlines; and the answers that it heard,
+-- in order
 pub record Mine : Type 0 where
   pub queries : List OpenQuery
   pub given : List Entry
   pub since : List Entry
   pub lost : List Contact
+  pub heard : List Answered
 
 -- a lookup, as events are read for it: its setting, what it asks and believes, and its journal
 pub record Whose : Type 0 where
@@ -80,15 +84,19 @@ received m at entries left = record {
   given = m.given ++ (entries ++ closed_at at left);
   since = [];
   lost = map (λ q. q.contact) (filter (is_overdue at) left);
+  heard = m.heard;
 }
 
 -- after a receive that was for another lookup, or for none
 abbrev pub waited : ℕ → Mine → Mine
 waited at m = received m at [] m.queries
 
--- a datagram that the lookup matches gives the entry of its reply
+-- a datagram that the lookup matches gives the entry of its reply; and it is heard where it is the answer of whom was asked, in
+-- its own name
 pub record MatchGives (quest : Quest) (accepts : Accepts) (m : Mine) (from : Addr) (bytes : List ℕ) (at : ℕ) (n : Mine) : Type 0 where
   pub entry : Entry
   pub left : List OpenQuery
   pub matched : Matched quest accepts m.queries from bytes entry left
-  pub after : n ≡ received m at (entry ∷ []) left
+  pub found : List Answered
+  pub hears : HearsOne quest accepts m.queries from bytes found
+  pub after : n ≡ record (received m at (entry ∷ []) left) { heard = m.heard ++ found }

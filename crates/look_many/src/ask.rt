@@ -56,6 +56,7 @@ fn ask_next<L: Link>(
         (L.told link.old) (L.told link.new) }
     ensures drawn { result ≡ true → words.new ≡ record words.old { place = words.old.place + 1 } }
     ensures quest { seeker.new.quest ≡ seeker.old.quest }
+    ensures gathered { seeker.new.gathered ≡ seeker.old.gathered }
     ensures seat { SameSeat seeker.old seeker.new }
     ensures holds { Holding seeker.new }
     ensures none { result ≡ false → may_ask seeker.old.lookup.book.setting path

@@ -1,6 +1,6 @@
 //! Several lookups and the node that serves meanwhile, from where they begin to where as many receives were made as are
 //! wanted, or the end by time has come.
-ghost use Rattle.std.specs.Prelude.{◌≡◌, ◌≤◌, ◌<◌, ◌+◌, ◌^◌, [], suc, length, map, reverse, vec_capacity, IfOk, IfErr, OnOk, IsErrOf, ◌∷◌};
+ghost use Rattle.std.specs.Prelude.{◌≡◌, ◌≤◌, ◌<◌, ◌+◌, ◌^◌, [], suc, length, map, reverse, vec_capacity, IfOk, IfErr, OnOk, OnErr, IsErrOf, ◌∷◌};
 ghost use Rattle.std.specs.List.{All, AllByRecursion, AllZip, range_with_len};
 ghost use Rattle.kad_base.specs.Contacts.{IsUsable};
 ghost use Rattle.kad_base.specs.Failing.{FailsLast};
@@ -9,18 +9,24 @@ ghost use Rattle.turn_book.specs.Turns.{fresh, AreAll};
 ghost use Rattle.contact_table.specs.TableStep.{contacts_of};
 ghost use Rattle.node_serve.specs.Calls.{IsSetting};
 ghost use Rattle.serve_crew.specs.Hands.{SameHands};
+ghost use Rattle.look_many.specs.Job.{MaySayOf};
 ghost use Rattle.look_many.specs.ManyLooked.{CountsUnsent, IsWithinLimits, ManyLooked, ManyStopped, journals_of, max_lookups};
 ghost use Rattle.look_many.specs.inner.Crowd.{LosesMore, stand};
-ghost use Rattle.look_many.specs.inner.ManySteps.{IsOfDesk, IsSeated};
+ghost use Rattle.look_many.specs.inner.ManySteps.{IsOfDesk, IsRunOut, IsSeated};
+ghost use Rattle.look_many.specs.inner.Following.{CarriesOf};
+ghost use Rattle.look_many.specs.inner.Kept.{follows_kept};
 ghost use Rattle.look_many.specs.inner.Going.{Begins, EndsWhole, SameSeats, WentWhole};
 ghost use Rattle.look_many.specs.inner.Seats.{IsBookFor, rows};
 ghost use Rattle.look_many.specs.inner.Ends.{FoundBack, StoppedBack, task};
 
-use crate::finish::{finish_all, gather};
+use crate::finish::{Done, finish_all, gather};
+use crate::follow::{FollowUp, follow_all};
 use crate::found::{Many, ManySetting};
 use crate::host::Desk;
+use crate::job::Job;
 use crate::legal::all_legal;
 use crate::opening::{next_pass, open_books, seat_all, stack_up};
+use crate::plan::plan;
 use crate::rounds::go_rounds;
 use crate::seeker::{ManyFault, Progress, Seeker};
 use crate::serving::serve_on;
@@ -29,7 +35,7 @@ use contact_table::Table;
 use id_puzzles::Words;
 use item_store::Items;
 use kad_base::limits::RECEIVE_ROOM;
-use kad_base::{Id, Link, NoMemory, Numbers, Serial};
+use kad_base::{Link, List, NoMemory, Numbers, Serial};
 use node_serve::{Lasting, ServeSetting, end_of};
 use path_worker::PacedCheck;
 use peer_store::Peers;
@@ -41,7 +47,36 @@ use std::sync::Wait;
 use std::thread::Threads;
 use turn_book::{Pass, Passes, Turn, TurnNoMemory};
 
-/// Goes all rounds of the lookups, and then serves on.
+/// Lists what follows the lookups, which are over, and notes how many queries that is.
+fn owe(
+    alloc: Global,
+    desk: &Desk,
+    jobs: &[Job],
+    seekers: &mut [Seeker],
+    progress: &mut Progress,
+) -> Result<List<FollowUp>, NoMemory>
+    requires jobs { length jobs.now ≡ length seekers.old }
+    requires carried { AllByRecursion MaySayOf jobs.now }
+    requires over { AllByRecursion IsRunOut seekers.old }
+    requires few { length seekers.old ≤ max_lookups }
+    requires small { AllByRecursion (λ k. k.lookup.book.setting.k < 256) seekers.old }
+    ensures same { seekers.new ≡ seekers.old }
+    ensures plan { IfOk result (λ plan. plan ≡ follows_kept desk.now.setting.now.own 0 jobs.now seekers.old) }
+    ensures carried { IfOk result (AllByRecursion CarriesOf) }
+    ensures few { IfOk result (λ plan. length plan ≤ 65536) }
+    ensures owes { IfOk result (λ plan. progress.new ≡ record progress.old { unsaid = length plan }) }
+    ensures same_progress { OnErr result (progress.new ≡ progress.old) }
+{
+    match plan(alloc, desk.setting.own, jobs, seekers) {
+        Ok(plan) => {
+            progress.unsaid = plan.len() as u64;
+            Ok(plan)
+        }
+        Err(NoMemory) => Err(NoMemory),
+    }
+}
+
+/// Goes all rounds of the lookups, sends the follow-ups, and then serves on.
 fn go<R: Threads + Wait + Sync, L: Link, C: PacedCheck + Sync, G: Seal + SealCheck>(
     rt: &R,
     alloc: Global,
@@ -52,24 +87,30 @@ fn go<R: Threads + Wait + Sync, L: Link, C: PacedCheck + Sync, G: Seal + SealChe
     progress: &mut Progress,
     words: &mut Words,
     owners: &mut Vec<u64>,
+    said: &mut Vec<u64>,
+    jobs: &[Job],
     check: &C,
     seal: &G,
 ) -> Result<(), ManyFault>
     requires setting { IsSetting desk.now.setting.now }
+    requires jobs { length jobs.now ≡ length seekers.old }
+    requires carried { AllByRecursion MaySayOf jobs.now }
     requires own { IsOfDesk desk.now host.old }
     requires seated { AllByRecursion (IsSeated desk.now.table.now) seekers.old }
     requires begins { Begins (stand seekers.old progress.old words.old host.old (L.told link.old)) }
     requires some_query { AllByRecursion (λ k. 1 ≤ k.lookup.book.setting.alpha) seekers.old }
     requires none_owned { owners.old.items ≡ [] }
+    requires none_said { said.old.items ≡ [] }
     requires moment { L.moment link.old ≡ progress.old.moment }
     ensures same { SameHands host.old host.new }
     ensures len { length seekers.new ≡ length seekers.old }
     ensures seats { SameSeats seekers.old seekers.new }
-    ensures went { OnOk result (WentWhole (G.accepted seal.now) (G.tag_of seal.now) desk.now.setting.now
+    ensures went { OnOk result (WentWhole (G.accepted seal.now) (G.tag_of seal.now) desk.now.setting.now jobs.now
         (stand seekers.old progress.old words.old host.old (L.told link.old))
-        (stand seekers.new progress.new words.new host.new (L.told link.new)) owners.new.items) }
+        (stand seekers.new progress.new words.new host.new (L.told link.new)) owners.new.items
+        said.new.items) }
     ensures ends { IfErr result (λ fault. EndsWhole fault (G.accepted seal.now) (G.tag_of seal.now)
-        desk.now.setting.now (stand seekers.old progress.old words.old host.old (L.told link.old))
+        desk.now.setting.now jobs.now (stand seekers.old progress.old words.old host.old (L.told link.old))
         words.new host.new (L.told link.new)) }
     ensures link { IsErrOf result ManyFault.LinkFault
         → Rose (L.recv_faults link.old) (L.recv_faults link.new) }
@@ -90,7 +131,18 @@ fn go<R: Threads + Wait + Sync, L: Link, C: PacedCheck + Sync, G: Seal + SealChe
     }
     all_legal(seekers);
     let _left = progress.left;
+    let plan = match owe(alloc, desk, jobs, seekers, progress) {
+        Ok(plan) => plan,
+        Err(NoMemory) => return Err(ManyFault::NoMemory),
+    };
     let mut buf = [0u8; RECEIVE_ROOM];
+    match follow_all(
+        rt, alloc, link, desk, host, seekers, progress, words, owners, said, seal, plan, &mut buf,
+        &mut out,
+    ) {
+        Ok(()) => {}
+        Err(fault) => return Err(fault),
+    }
     match serve_on(
         rt, alloc, link, desk, host, seekers, progress, seal, &mut buf, &mut out,
     ) {
@@ -102,13 +154,14 @@ fn go<R: Threads + Wait + Sync, L: Link, C: PacedCheck + Sync, G: Seal + SealChe
     }
 }
 
-/// The room that the lookups need, taken before anything begins: their books, the last one's first; themselves; and their
-/// passes, while they are handed out.
+/// The room that the lookups need, taken before anything begins: their books, the last one's first; themselves; their passes,
+/// while they are handed out; and what is left of them in the end.
 #[derive(Drop)]
 struct Room {
     books: Vec<Book>,
     seekers: Vec<Seeker>,
     stack: Vec<Pass<Table>>,
+    done: Vec<Done>,
 }
 
 /// Takes all room, and opens the books.
@@ -117,31 +170,36 @@ fn take_room(
     table: &mut Table,
     server: &ServeSetting,
     setting: &ManySetting,
-    targets: &[Id],
+    jobs: &[Job],
     hasher: RandomState,
 ) -> Result<Room, NoMemory>
     requires limits { IsWithinLimits setting.now }
     requires usable { All (IsUsable server.now.own) (contacts_of table.old) }
-    ensures books { IfOk result (λ room. AllZip (IsBookFor server.now setting.now table.old) targets.now
+    ensures books { IfOk result (λ room. AllZip (IsBookFor server.now setting.now table.old) jobs.now
         (reverse room.books.items)) }
-    ensures book_room { IfOk result (λ room. length targets.now ≤ vec_capacity room.books) }
+    ensures none_done { IfOk result (λ room. room.done.items ≡ []) }
+    ensures done_room { IfOk result (λ room. length jobs.now ≤ vec_capacity room.done) }
     ensures no_seekers { IfOk result (λ room. room.seekers.items ≡ []) }
-    ensures seeker_room { IfOk result (λ room. length targets.now ≤ vec_capacity room.seekers) }
+    ensures seeker_room { IfOk result (λ room. length jobs.now ≤ vec_capacity room.seekers) }
     ensures no_stack { IfOk result (λ room. room.stack.items ≡ []) }
-    ensures stack_room { IfOk result (λ room. length targets.now + 1 ≤ vec_capacity room.stack) }
+    ensures stack_room { IfOk result (λ room. length jobs.now + 1 ≤ vec_capacity room.stack) }
     ensures table { table.new ≡ table.old }
 {
-    let Ok(seekers) = Vec::with_capacity(alloc, targets.len()) else {
+    let Ok(seekers) = Vec::with_capacity(alloc, jobs.len()) else {
         return Err(NoMemory);
     };
-    let Ok(stack) = Vec::with_capacity(alloc, targets.len() + 1) else {
+    let Ok(stack) = Vec::with_capacity(alloc, jobs.len() + 1) else {
         return Err(NoMemory);
     };
-    match open_books(alloc, table, server, setting, targets, hasher) {
+    let Ok(done) = Vec::with_capacity(alloc, jobs.len()) else {
+        return Err(NoMemory);
+    };
+    match open_books(alloc, table, server, setting, jobs, hasher) {
         Ok(books) => Ok(Room {
             books,
             seekers,
             stack,
+            done,
         }),
         Err(NoMemory) => Err(NoMemory),
     }
@@ -168,7 +226,7 @@ fn work<R: Threads + Wait + Sync, L: Link, C: PacedCheck + Sync, G: Seal + SealC
     link: &mut L,
     words: &mut Words,
     desk: &Desk,
-    targets: &[Id],
+    jobs: &[Job],
     setting: &ManySetting,
     lasting: Lasting,
     check: &C,
@@ -179,33 +237,35 @@ fn work<R: Threads + Wait + Sync, L: Link, C: PacedCheck + Sync, G: Seal + SealC
     mut room: Room,
 ) -> Result<Many, ManyFault>
     requires setting { IsSetting desk.now.setting.now }
-    requires few { length targets.now ≤ max_lookups }
+    requires few { length jobs.now ≤ max_lookups }
+    requires carried { AllByRecursion MaySayOf jobs.now }
     requires limits { IsWithinLimits setting.now }
     requires small { desk.now.setting.now.k < 256 }
     requires place { words.old.place < 2 ^ 59 }
-    requires books { AllZip (IsBookFor desk.now.setting.now setting.now desk.now.table.now.start) targets.now
+    requires books { AllZip (IsBookFor desk.now.setting.now setting.now desk.now.table.now.start) jobs.now
         (reverse room.books.items) }
-    requires book_room { length targets.now ≤ vec_capacity room.books }
+    requires none_done { room.done.items ≡ [] }
+    requires done_room { length jobs.now ≤ vec_capacity room.done }
     requires no_seekers { room.seekers.items ≡ [] }
-    requires seeker_room { length targets.now ≤ vec_capacity room.seekers }
+    requires seeker_room { length jobs.now ≤ vec_capacity room.seekers }
     requires no_stack { room.stack.items ≡ [] }
-    requires stack_room { length targets.now + 1 ≤ vec_capacity room.stack }
-    requires table_roles { desk.now.table.now.roles ≡ length targets.now + 1 }
+    requires stack_room { length jobs.now + 1 ≤ vec_capacity room.stack }
+    requires table_roles { desk.now.table.now.roles ≡ length jobs.now + 1 }
     requires peers_roles { desk.now.peers.now.roles ≡ 1 }
     requires items_roles { desk.now.items.now.roles ≡ 1 }
-    requires tables { table_row.old.passes ≡ map (fresh desk.now.table.now.id) (range_with_len 0 (length targets.now + 1)) }
+    requires tables { table_row.old.passes ≡ map (fresh desk.now.table.now.id) (range_with_len 0 (length jobs.now + 1)) }
     requires peers { peers_row.old.passes ≡ fresh desk.now.peers.now.id 0 ∷ [] }
     requires items { items_row.old.passes ≡ fresh desk.now.items.now.id 0 ∷ [] }
-    requires table_room { table_row.old.room ≡ length targets.now + 1 }
+    requires table_room { table_row.old.room ≡ length jobs.now + 1 }
     requires peers_room { peers_row.old.room ≡ 1 }
     requires items_room { items_row.old.room ≡ 1 }
     ensures tables { AreAll desk.now.table.now table_row.new.passes }
     ensures peers { AreAll desk.now.peers.now peers_row.new.passes }
     ensures items { AreAll desk.now.items.now items_row.new.passes }
-    ensures ok { IfOk result (FoundBack (task (G.accepted seal.now) (G.tag_of seal.now) desk.now.setting.now setting.now targets.now lasting)
+    ensures ok { IfOk result (FoundBack (task (G.accepted seal.now) (G.tag_of seal.now) desk.now.setting.now setting.now jobs.now lasting)
         (rows desk.now.table.now desk.now.peers.now desk.now.items.now table_row.new.passes peers_row.new.passes items_row.new.passes)
         words.old words.new (L.told link.old) (L.told link.new)) }
-    ensures stopped { IfErr result (StoppedBack (task (G.accepted seal.now) (G.tag_of seal.now) desk.now.setting.now setting.now targets.now lasting)
+    ensures stopped { IfErr result (StoppedBack (task (G.accepted seal.now) (G.tag_of seal.now) desk.now.setting.now setting.now jobs.now lasting)
         (rows desk.now.table.now desk.now.peers.now desk.now.items.now table_row.new.passes peers_row.new.passes items_row.new.passes)
         words.old words.new (L.told link.old) (L.told link.new)) }
     ensures link { IsErrOf result ManyFault.LinkFault
@@ -224,12 +284,13 @@ fn work<R: Threads + Wait + Sync, L: Link, C: PacedCheck + Sync, G: Seal + SealC
     let items_pass = only_pass(desk.items, items_row);
     let mut host = ServeWorker::new(alloc, table_pass, peers_pass, items_pass);
     seat_all(
+        alloc,
         desk.table,
         &mut room.stack,
         &mut room.books,
         desk.setting,
         setting,
-        targets,
+        jobs,
         &mut room.seekers,
     );
     let began = link.now();
@@ -241,8 +302,10 @@ fn work<R: Threads + Wait + Sync, L: Link, C: PacedCheck + Sync, G: Seal + SealC
         end: end_of(began, lasting.minutes),
         received: 0,
         replied: 0,
+        unsaid: 0,
     };
     let mut owners = Vec::new(alloc);
+    let mut said = Vec::new(alloc);
     let ended = go(
         rt,
         alloc,
@@ -253,6 +316,8 @@ fn work<R: Threads + Wait + Sync, L: Link, C: PacedCheck + Sync, G: Seal + SealC
         &mut progress,
         words,
         &mut owners,
+        &mut said,
+        jobs,
         check,
         seal,
     );
@@ -260,12 +325,12 @@ fn work<R: Threads + Wait + Sync, L: Link, C: PacedCheck + Sync, G: Seal + SealC
     table_row.push(table_pass);
     peers_row.push(peers_pass);
     items_row.push(items_pass);
-    gather(table_row, room.seekers, &mut room.books);
+    gather(table_row, room.seekers, &mut room.done);
     match ended {
         Ok(()) => {}
         Err(fault) => return Err(fault),
     }
-    match finish_all(alloc, room.books) {
+    match finish_all(alloc, room.done, said.as_slice()) {
         Ok(outcomes) => Ok(Many {
             outcomes,
             owners: Numbers::from_vec(owners),
@@ -276,8 +341,10 @@ fn work<R: Threads + Wait + Sync, L: Link, C: PacedCheck + Sync, G: Seal + SealC
     }
 }
 
-/// Looks up to sixteen targets up at the same time, each on its own disjoint paths (S/Kademlia, 2007, section 4.4) from the
-/// k closest contacts of the table, and answers meanwhile what comes for none of them (BEP 5); when all lookups are over it
+/// Makes the lookups of up to sixteen jobs at the same time, each on its own disjoint paths (S/Kademlia, 2007, section 4.4) from
+/// the k closest contacts of the table, and answers meanwhile what comes for none of them (BEP 5). When all lookups are over it
+/// sends what they owe, in the order of the jobs: an `announce_peer` (BEP 5) or a `put` (BEP 44) to each contact of a job's result
+/// that gave that job a token, without waiting for answers; behind each it makes one receive call, which doesn't wait. Then it
 /// goes on answering until it has made as many receive calls in all as `lasting` says, or the moment told last is at or
 /// past its end, counted from the first told moment: each of these calls waits for a minute, to the end at most. The end
 /// cuts no lookup off. The node's identifier, k, policy and seal are the server's, so that its queries don't say that it is
@@ -293,7 +360,7 @@ pub fn look_many<R: Threads + Wait + Sync, L: Link, C: PacedCheck + Sync, G: Sea
     words: &mut Words,
     table: Table,
     server: &ServeSetting,
-    targets: &[Id],
+    jobs: &[Job],
     setting: &ManySetting,
     lasting: Lasting,
     check: &C,
@@ -303,13 +370,14 @@ pub fn look_many<R: Threads + Wait + Sync, L: Link, C: PacedCheck + Sync, G: Sea
     requires setting { IsSetting server.now }
     requires limits { IsWithinLimits setting.now }
     requires small { server.now.k < 256 }
-    requires few { length targets.now ≤ max_lookups }
+    requires few { length jobs.now ≤ max_lookups }
+    requires carried { AllByRecursion MaySayOf jobs.now }
     requires usable { All (IsUsable server.now.own) (contacts_of table) }
     requires place { words.old.place < 2 ^ 59 }
-    ensures ok { IfOk result.1 (ManyLooked (G.accepted seal.now) (G.tag_of seal.now) server.now setting.now targets.now
+    ensures ok { IfOk result.1 (ManyLooked (G.accepted seal.now) (G.tag_of seal.now) server.now setting.now jobs.now
         lasting table result.0 words.old words.new (L.told link.old) (L.told link.new)) }
     ensures stopped { IfErr result.1 (ManyStopped (G.accepted seal.now) (G.tag_of seal.now) server.now setting.now
-        targets.now lasting table result.0 words.old words.new (L.told link.old) (L.told link.new)) }
+        jobs.now lasting table result.0 words.old words.new (L.told link.old) (L.told link.new)) }
     ensures link { IsErrOf result.1 ManyFault.LinkFault
         → Rose (L.recv_faults link.old) (L.recv_faults link.new) }
     ensures last { IsErrOf result.1 ManyFault.LinkFault
@@ -321,11 +389,11 @@ pub fn look_many<R: Threads + Wait + Sync, L: Link, C: PacedCheck + Sync, G: Sea
     ensures kept { L.kept link.new ≡ L.kept link.old }
 {
     let mut table = table;
-    let room = match take_room(alloc, &mut table, server, setting, targets, hasher) {
+    let room = match take_room(alloc, &mut table, server, setting, jobs, hasher) {
         Ok(room) => room,
         Err(NoMemory) => return (table, Err(ManyFault::NoMemory)),
     };
-    let roles = targets.len() as u8 + 1;
+    let roles = jobs.len() as u8 + 1;
     let limit = usize::from(table.per_address());
     let (tables, mut table_row) = match Turn::new(alloc, table, roles) {
         Ok(opened) => opened,
@@ -359,7 +427,7 @@ pub fn look_many<R: Threads + Wait + Sync, L: Link, C: PacedCheck + Sync, G: Sea
         link,
         words,
         &desk,
-        targets,
+        jobs,
         setting,
         lasting,
         check,

@@ -1,6 +1,7 @@
 //! What several lookups are given, and what they found.
 use claim_book::{Counts, Journal};
-use kad_base::{Contacts, List, Numbers};
+use kad_base::{Addrs, Contacts, List, Numbers};
+use lookup_core::{ItemList, Tokened};
 
 /// How each of several lookups goes: on how many disjoint paths, with how many queries at once on each, how long it waits
 /// for an answer, in milliseconds, and how many contacts of one host a path has at most (0: as many as come).
@@ -12,18 +13,24 @@ pub struct ManySetting {
     pub per_address: u8,
 }
 
-/// What one of several lookups found, nearest first, its numbers and its journal.
+/// What one of several lookups found: the closest contacts, its numbers, its journal, the peers that the answers named, each
+/// once and in order, the tokens, and the items that they gave, both in the order of the answers; and how many of its follow-ups
+/// were sent. There are peers only if those were asked for, items only if one was, and tokens in both cases.
 #[derive(Debug, Drop)]
 pub struct One {
     pub found: Contacts,
     pub counts: Counts,
     pub journal: Journal,
+    pub peers: Addrs,
+    pub tokens: Tokened,
+    pub items: ItemList,
+    pub sent: u64,
 }
 
 pub type Ones = List<One>;
 
-/// What several lookups found, in the order of their targets; the number of the lookup that each query was of, in the order in
-/// which they were sent, refused ones too; and how many datagrams came, and how many replies were sent to others.
+/// What several lookups found, in the order of their jobs; the number of the lookup that each query was of, follow-ups
+/// too, in the order in which they were sent, refused ones too; and how many datagrams came, and how many replies were sent to others.
 #[derive(Debug, Drop)]
 pub struct Many {
     pub outcomes: Ones,

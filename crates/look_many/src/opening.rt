@@ -8,11 +8,12 @@ ghost use Rattle.look_many.specs.ManyLooked.{IsWithinLimits, quest_for, seeds_fo
 ghost use Rattle.look_many.specs.inner.Seats.{IsBookFor, IsSeekerFor};
 
 use crate::found::ManySetting;
+use crate::job::Job;
 use crate::seeker::Seeker;
 use claim_book::{Book, Setting};
 use contact_table::{Table, TableCall, TableReply};
-use kad_base::{Contacts, Family, Id, NoMemory, Serial};
-use lookup_core::{AskKind, Lookup, Quest};
+use kad_base::{Contacts, Family, NoMemory, Serial};
+use lookup_core::{Lookup, Quest, nothing};
 use node_serve::ServeSetting;
 use std::alloc::Global;
 use std::hash::RandomState;
@@ -21,13 +22,13 @@ use turn_book::{Pass, Passes, Turn};
 /// The role in which the driver calls.
 pub(crate) const DRIVER: u8 = 0;
 
-/// What the book of a lookup for the target is set to.
-fn setting_of(server: &ServeSetting, setting: &ManySetting, target: &Id) -> Setting
-    ensures { result ≡ setting_for server.now setting.now target.now }
+/// What the book of the job's lookup is set to.
+fn setting_of(server: &ServeSetting, setting: &ManySetting, job: &Job) -> Setting
+    ensures { result ≡ setting_for server.now setting.now job.now }
 {
     Setting {
         own: server.own,
-        target: *target,
+        target: job.target(),
         k: server.k,
         paths: setting.paths,
         alpha: setting.alpha,
@@ -36,15 +37,15 @@ fn setting_of(server: &ServeSetting, setting: &ManySetting, target: &Id) -> Sett
     }
 }
 
-/// What a lookup for the target asks, and what it believes.
-fn quest_of(server: &ServeSetting, setting: &ManySetting, target: &Id) -> Quest
-    ensures { result ≡ quest_for server.now setting.now target.now }
+/// What the job's lookup asks, and what it believes.
+fn quest_of(server: &ServeSetting, setting: &ManySetting, job: &Job) -> Quest
+    ensures { result ≡ quest_for server.now setting.now job.now }
 {
     Quest {
         own: server.own,
-        target: *target,
+        target: job.target(),
         policy: server.policy,
-        kind: AskKind::FindNode,
+        kind: job.kind(),
         family: Family::Four,
         timeout: setting.timeout,
         sealed: server.sealed,
@@ -52,13 +53,13 @@ fn quest_of(server: &ServeSetting, setting: &ManySetting, target: &Id) -> Quest
     }
 }
 
-/// The contacts that a lookup for the target begins with: the k closest of the table.
-fn seeds_of(table: &mut Table, server: &ServeSetting, target: &Id) -> Result<Contacts, NoMemory>
-    ensures seeds { IfOk result (λ seeds. seeds ≡ seeds_for server.now table.old target.now) }
+/// The contacts that the job's lookup begins with: the k of the table that are closest to its target.
+fn seeds_of(table: &mut Table, server: &ServeSetting, job: &Job) -> Result<Contacts, NoMemory>
+    ensures seeds { IfOk result (λ seeds. seeds ≡ seeds_for server.now table.old job.now) }
     ensures table { table.new ≡ table.old }
 {
     let call = TableCall::Closest {
-        target: *target,
+        target: job.target(),
         n: server.k,
     };
     match table.apply(DRIVER, call) {
@@ -76,44 +77,44 @@ fn open_book(
     table: &mut Table,
     server: &ServeSetting,
     setting: &ManySetting,
-    target: &Id,
+    job: &Job,
     hasher: RandomState,
 ) -> Result<Book, NoMemory>
     requires limits { IsWithinLimits setting.now }
     requires usable { All (IsUsable server.now.own) (contacts_of table.old) }
-    ensures book { IfOk result (IsBookFor server.now setting.now table.old target.now) }
+    ensures book { IfOk result (IsBookFor server.now setting.now table.old job.now) }
     ensures table { table.new ≡ table.old }
 {
-    let seeds = seeds_of(table, server, target)?;
+    let seeds = seeds_of(table, server, job)?;
     Book::new(
         alloc,
-        setting_of(server, setting, target),
+        setting_of(server, setting, job),
         seeds.as_slice(),
         hasher,
     )
 }
 
-/// The books of all lookups, that of the last target first, so that they are taken from the end in order.
+/// The books of all lookups, that of the last job first, so that they are taken from the end in order.
 pub(crate) fn open_books(
     alloc: Global,
     table: &mut Table,
     server: &ServeSetting,
     setting: &ManySetting,
-    targets: &[Id],
+    jobs: &[Job],
     hasher: RandomState,
 ) -> Result<Vec<Book>, NoMemory>
     requires limits { IsWithinLimits setting.now }
     requires usable { All (IsUsable server.now.own) (contacts_of table.old) }
-    ensures books { IfOk result (λ books. AllZip (IsBookFor server.now setting.now table.old) targets.now
+    ensures books { IfOk result (λ books. AllZip (IsBookFor server.now setting.now table.old) jobs.now
         (reverse books.items)) }
-    ensures room { IfOk result (λ books. length targets.now ≤ vec_capacity books) }
+    ensures room { IfOk result (λ books. length jobs.now ≤ vec_capacity books) }
     ensures table { table.new ≡ table.old }
 {
-    let mut books = Vec::with_capacity(alloc, targets.len())?;
-    let mut left = targets.len();
+    let mut books = Vec::with_capacity(alloc, jobs.len())?;
+    let mut left = jobs.len();
     while left > 0 {
         left -= 1;
-        books.push_reserved(open_book(alloc, table, server, setting, &targets[left], hasher)?);
+        books.push_reserved(open_book(alloc, table, server, setting, &jobs[left], hasher)?);
     }
     Ok(books)
 }
@@ -154,36 +155,38 @@ pub(crate) fn next_pass(stack: &mut Vec<Pass<Table>>) -> Pass<Table>
     pass
 }
 
-/// Makes a lookup for each target, of the next book and the next pass. The books' list keeps its room.
+/// Makes a lookup for each job, of the next book and the next pass. The books' list keeps its room.
 pub(crate) fn seat_all(
+    alloc: Global,
     tables: &Turn<Table>,
     stack: &mut Vec<Pass<Table>>,
     books: &mut Vec<Book>,
     server: &ServeSetting,
     setting: &ManySetting,
-    targets: &[Id],
+    jobs: &[Job],
     seekers: &mut Vec<Seeker>,
 )
-    requires books { AllZip (IsBookFor server.now setting.now tables.now.start) targets.now
+    requires books { AllZip (IsBookFor server.now setting.now tables.now.start) jobs.now
         (reverse books.old.items) }
     requires passes { reverse stack.old.items ≡ map (fresh tables.now.id)
-        (range_with_len 1 (length targets.now)) }
+        (range_with_len 1 (length jobs.now)) }
     requires empty { seekers.old.items ≡ [] }
-    requires room { length targets.now ≤ vec_capacity seekers.old }
-    ensures seekers { AllZip (IsSeekerFor server.now setting.now tables.now.start) targets.now
+    requires room { length jobs.now ≤ vec_capacity seekers.old }
+    ensures seekers { AllZip (IsSeekerFor server.now setting.now tables.now.start) jobs.now
         seekers.new.items }
     ensures passes { map (λ k. k.pass) seekers.new.items ≡ map (fresh tables.now.id)
-        (range_with_len 1 (length targets.now)) }
+        (range_with_len 1 (length jobs.now)) }
     ensures books { books.new.items ≡ [] }
     ensures room { vec_capacity books.new ≡ vec_capacity books.old }
 {
     let _ = tables;
-    for i in 0..targets.len() {
+    for i in 0..jobs.len() {
         let book = next_book(books);
         let pass = next_pass(stack);
         seekers.push_reserved(Seeker {
-            quest: quest_of(server, setting, &targets[i]),
+            quest: quest_of(server, setting, &jobs[i]),
             lookup: Lookup::new(book),
+            gathered: nothing(alloc),
             pass,
             settled: Ok(()),
         });

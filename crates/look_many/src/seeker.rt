@@ -1,7 +1,7 @@
 //! What the driver of several lookups keeps.
 use contact_table::Table;
 use kad_base::NoMemory;
-use lookup_core::{Lookup, Quest};
+use lookup_core::{Gathered, Lookup, Quest};
 use thiserror::Error;
 use turn_book::Pass;
 
@@ -18,19 +18,21 @@ pub enum ManyFault {
     NoMemory,
 }
 
-/// One of the lookups: what it asks and believes, what it keeps, by which pass it tells the table who answered, and how its
-/// last settling ended.
+/// One of the lookups: what it asks and believes, what it keeps, what it gathered beside contacts, by which pass it tells the
+/// table who answered, and how its last settling ended.
 #[derive(Drop)]
 pub(crate) struct Seeker {
     pub quest: Quest,
     pub lookup: Lookup,
+    pub gathered: Gathered,
     pub pass: Pass<Table>,
     pub settled: Result<(), NoMemory>,
 }
 
 /// Where the link stands between two calls: the last told moment, how many receives the round has had (0 where the next
 /// one begins a round), how many datagrams were for no lookup, how many receives are still wanted, the moment at which
-/// serving on ends (`None` where no moment does), how many datagrams came in all, and how many replies were sent.
+/// serving on ends (`None` where no moment does), how many datagrams came in all, how many replies were sent, and how many
+/// follow-ups have still to go out (0 while lookups are open).
 #[derive(Clone, Copy, Debug)]
 pub(crate) struct Progress {
     pub moment: u64,
@@ -40,4 +42,5 @@ pub(crate) struct Progress {
     pub end: Option<u64>,
     pub received: u64,
     pub replied: u64,
+    pub unsaid: u64,
 }

@@ -49,6 +49,7 @@ fn serve_one<R: Wait, L: Link, G: Seal + SealCheck>(
     requires own { IsOfDesk desk.now host.old }
     requires may { MayServe seekers.old progress.old }
     requires more { WantsMore progress.old }
+    requires said { progress.old.unsaid ≡ 0 }
     requires room { length buf.old ≡ max_datagram + 1 }
     requires moment { L.moment link.old ≡ progress.old.moment }
     ensures same { SameHands host.old host.new }
@@ -59,7 +60,9 @@ fn serve_one<R: Wait, L: Link, G: Seal + SealCheck>(
         (stand seekers.old progress.old words host.old (L.told link.old))
         (stand seekers.new progress.new words host.new (L.told link.new))) }
     ensures may { OnOk result (MayServe seekers.new progress.new) }
+    ensures said { OnOk result (progress.new.unsaid ≡ 0) }
     ensures journals { OnOk result (map whose seekers.new ≡ map whose seekers.old) }
+    ensures gathered { OnOk result (map (λ k. k.gathered) seekers.new ≡ map (λ k. k.gathered) seekers.old) }
     ensures left { OnOk result (progress.new.left ≡ progress.old.left - 1) }
     ensures moment { OnOk result (L.moment link.new ≡ progress.new.moment) }
     ensures stops { IfErr result (λ fault. (words : WordsState) → EndsEarly false fault
@@ -103,6 +106,7 @@ pub(crate) fn serve_on<R: Wait, L: Link, G: Seal + SealCheck>(
     requires setting { IsSetting desk.now.setting.now }
     requires own { IsOfDesk desk.now host.old }
     requires may { MayServe seekers.old progress.old }
+    requires said { progress.old.unsaid ≡ 0 }
     requires room { length buf.old ≡ max_datagram + 1 }
     requires moment { L.moment link.old ≡ progress.old.moment }
     ensures same { SameHands host.old host.new }
@@ -113,7 +117,9 @@ pub(crate) fn serve_on<R: Wait, L: Link, G: Seal + SealCheck>(
         (stand seekers.old progress.old words host.old (L.told link.old))
         (stand seekers.new progress.new words host.new (L.told link.new))) }
     ensures may { OnOk result (MayServe seekers.new progress.new) }
+    ensures said { OnOk result (progress.new.unsaid ≡ 0) }
     ensures journals { OnOk result (map whose seekers.new ≡ map whose seekers.old) }
+    ensures gathered { OnOk result (map (λ k. k.gathered) seekers.new ≡ map (λ k. k.gathered) seekers.old) }
     ensures over { OnOk result (HasEnough progress.new) }
     ensures moment { OnOk result (L.moment link.new ≡ progress.new.moment) }
     ensures stops { IfErr result (λ fault. (words : WordsState) → EndsEarly false fault

@@ -8,7 +8,7 @@ ghost use Rattle.look_many.specs.inner.ManySteps.{IsUnasked, FirstWaits, IsNotFo
 
 use crate::seeker::Seeker;
 use kad_base::{Addr, NoMemory};
-use lookup_core::{ReplyView, SaidView, read_reply};
+use lookup_core::{ReplyView, SaidView, Taken, keep, read_reply};
 use seal_tags::SealCheck;
 use std::alloc::Global;
 
@@ -52,15 +52,21 @@ fn first_that_waits<G: SealCheck>(
     Ok(None)
 }
 
-/// The lookup hears the reply to its query at that place. What it gives beside contacts nobody keeps.
+/// The lookup hears the reply to its query at that place, and keeps what it gives beside contacts.
 fn hear(alloc: Global, seeker: &mut Seeker, place: usize, reply: ReplyView) -> Result<(), NoMemory>
     requires holds { Holding seeker.old }
     requires open { place < length seeker.old.lookup.queries }
     ensures seat { SameSeat seeker.old seeker.new }
     ensures ok { OnOk result (Hears place (reply_seen reply.entry) seeker.old seeker.new) }
 {
-    seeker.lookup.hear(alloc, &seeker.quest, place, reply)?;
-    Ok(())
+    match seeker.lookup.hear(alloc, &seeker.quest, place, reply)? {
+        Taken::Heard(answered) => {
+            keep(alloc, &mut seeker.gathered, seeker.quest.kind, answered)?;
+            Ok(())
+        }
+        Taken::Stray => Ok(()),
+        Taken::Lost => Ok(()),
+    }
 }
 
 /// Hands the datagram, which is read once, to the first lookup that has an open query to which it replies; false where it

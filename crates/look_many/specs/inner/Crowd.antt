@@ -1,6 +1,6 @@
 -- Where several lookups stand between two calls on their link: what the events showed, what each keeps, and what the node that
 -- serves has done.
-use Rattle.std.specs.Prelude.{◌≡◌, ℕ, ◌+◌, ◌-◌, ◌<◌, ◌≤◌, List, [], ◌∷◌, ◌++◌, Contains, length, map, Option, None, Bool, cond}
+use Rattle.std.specs.Prelude.{◌≡◌, ◌≢◌, ℕ, ◌+◌, ◌-◌, ◌<◌, ◌≤◌, List, [], ◌∷◌, ◌++◌, Contains, length, map, Option, None, Bool, false, cond}
 use Rattle.std.specs.List.{All, AllZip, flat_map}
 use Rattle.kad_base.specs.declared.types.Contact.{Contact}
 use Rattle.kad_base.specs.declared.types.Event.{Event}
@@ -11,6 +11,8 @@ use Rattle.query_book.specs.declared.Query.{Query}
 use Rattle.claim_book.specs.declared.types.Entry.{Entry}
 use Rattle.claim_book.specs.Legal.{Legal}
 use Rattle.claim_book.specs.Journal.{asked, may_ask, unsettled}
+use Rattle.lookup_core.specs.declared.quest.AskKind.TheVariants.{FindNode}
+use Rattle.lookup_core.specs.Gathered.{IsBare, Keeping}
 use Rattle.lookup_core.specs.LookupSteps.{as_open, Holds}
 use Rattle.lookup_core.specs.Matching.{OpenQuery}
 use Rattle.lookup_core.specs.Sealed.{Accepts}
@@ -19,6 +21,7 @@ use Rattle.node_serve.specs.declared.setting.ServeSetting.{ServeSetting}
 use Rattle.node_serve.specs.Calls.{Did, HadMemory}
 use Rattle.node_serve.specs.Sealing.{Tags}
 use Rattle.serve_crew.specs.Hands.{Hands, Grew}
+use Rattle.look_many.specs.declared.follow.FollowUp.{FollowUp}
 use Rattle.look_many.specs.declared.seeker.Seeker.{Seeker}
 use Rattle.look_many.specs.declared.seeker.Progress.{Progress}
 use Rattle.look_many.specs.Mine.{Mine, Whose, driven}
@@ -43,12 +46,13 @@ Holding k = Holds k.lookup
 abbrev pub NoneAsks : Seeker → Type 0
 NoneAsks k = (p : ℕ) → p < k.lookup.book.setting.paths → may_ask k.lookup.book.setting p k.lookup.book.journal ≡ None
 
--- a longer journal, and else the same
+-- a longer journal, and else the same; what it gathered may be more where more than contacts is asked for
 pub record Longer (old new : Seeker) : Type 0 where
   pub more : List Entry
   pub quest : new.quest ≡ old.quest
   pub setting : new.lookup.book.setting ≡ old.lookup.book.setting
   pub journal : new.lookup.book.journal ≡ old.lookup.book.journal ++ more
+  pub gathered : old.quest.kind ≡ FindNode → new.gathered ≡ old.gathered
 
 -- its book's journal is legal
 abbrev pub IsLegal : Seeker → Type 0
@@ -99,6 +103,7 @@ queries_of ks = flat_map (λ k. k.lookup.queries) ks
 pub record KeepsMine (k : Seeker) (m : Mine) : Type 0 where
   pub queries : m.queries ≡ opens k
   pub given : m.given ≡ driven k.lookup.book.journal
+  pub gathered : Keeping k.quest.kind m.heard k.gathered
 
 -- ---- all of them
 
@@ -114,9 +119,15 @@ pub record KeepsProgress (f : Frame) (progress : Progress) (place : ℕ) (owed :
   pub left : f.wanted - s.made ≡ progress.left
   pub owed_is : s.owed ≡ owed
 
--- while lookups are open no receive is made for others, so their journals may grow
+-- and of the follow-ups: how many are left; none is owed a receive unless there are some
+pub record KeepsSaying (busy : Bool) (follows : List FollowUp) (progress : Progress) (s : Shown) : Type 0 where
+  pub within : s.followed ≤ length follows
+  pub left : length follows - s.followed ≡ progress.unsaid
+  pub some : busy ≡ false → progress.receives ≢ 0 → 0 < length follows
+
+-- while lookups are open no receive is made for others and no follow-up goes out, so their journals may grow
 abbrev pub framed : Bool → Frame → Frame
-framed busy f = record f { wanted = cond busy 0 f.wanted }
+framed busy f = record f { wanted = cond busy 0 f.wanted; follows = cond busy [] f.follows }
 
 -- the events show where all lookups stand, and which reply is owed; `busy` while lookups may ask or wait
 pub record ManyShow (busy : Bool) (f : Frame) (count : ℕ) (ks : List Seeker) (progress : Progress) (place : ℕ) (owed : Option Owed) (read : Reading) (events : List Event) : Type 0 where
@@ -127,11 +138,13 @@ pub record ManyShow (busy : Bool) (f : Frame) (count : ℕ) (ks : List Seeker) (
   pub walk : GivesFrom (framed busy f) (map whose ks) (begun f.minutes count at) rest end read
   pub keeps_progress : KeepsProgress f progress place owed end
   pub keeps_each : AllZip KeepsMine ks end.each
+  pub keeps_saying : KeepsSaying busy (cond busy [] f.follows) progress end
 
 -- a lookup of which no event told yet
 pub record IsFresh (k : Seeker) : Type 0 where
   pub none_open : k.lookup.queries ≡ []
   pub none_driven : driven k.lookup.book.journal ≡ []
+  pub bare : IsBare k.gathered
 
 -- how many lookups there are
 abbrev pub count_of : List Seeker → ℕ
@@ -168,12 +181,24 @@ pub record IsFrame (accepts : Accepts) (tags : Tags) (server : ServeSetting) (se
   pub seed_is : f.seed ≡ seed
 
 -- Whatever the events showed since any beginning they go on to show; what is read of them grew by `more`, and so did the calls
--- of the node that serves. The queries that were sent since, or failed to be, have these owners.
+-- of the node that serves. The queries that were sent since, or failed to be, have these owners, and none was a follow-up.
 pub record Advances (busy : Bool) (made : List ℕ) (accepts : Accepts) (tags : Tags) (server : ServeSetting) (old new : Stand) : Type 0 where
   pub more : Reading
   pub owners_are : more.owners ≡ made
+  pub none_told : more.told ≡ []
   pub goes : (f : Frame) (count : ℕ) (read : Reading) (began : Option (List Event)) → IsFrame accepts tags server old.words.seed f
       → Grows began old.told (λ events. ManyShow busy f count old.seekers old.progress old.words.place None read events)
       → Grows began new.told (λ events. ManyShow busy f count new.seekers new.progress new.words.place None (and_then read more) events)
+  pub ran : Ran old.host new.host more.did more.lost
+  pub seed : new.words.seed ≡ old.words.seed
+
+-- The same where the lookups are over and these are the follow-ups: of those that were sent the last list has the owners.
+pub record Follows (follows : List FollowUp) (made told : List ℕ) (accepts : Accepts) (tags : Tags) (server : ServeSetting) (old new : Stand) : Type 0 where
+  pub more : Reading
+  pub owners_are : more.owners ≡ made
+  pub told_are : more.told ≡ told
+  pub goes : (f : Frame) (count : ℕ) (read : Reading) (began : Option (List Event)) → IsFrame accepts tags server old.words.seed f → f.follows ≡ follows
+      → Grows began old.told (λ events. ManyShow false f count old.seekers old.progress old.words.place None read events)
+      → Grows began new.told (λ events. ManyShow false f count new.seekers new.progress new.words.place None (and_then read more) events)
   pub ran : Ran old.host new.host more.did more.lost
   pub seed : new.words.seed ≡ old.words.seed

@@ -29,7 +29,8 @@ use Rattle.lookup_core.specs.declared.state.Lookup.{Lookup}
 use Rattle.lookup_core.specs.Quest.{query_message}
 use Rattle.lookup_core.specs.Reply.{Reply, Said, Answered}
 use Rattle.lookup_core.specs.declared.on_reply.Taken.{Taken}
-use Rattle.lookup_core.specs.LookupSteps.{AsksNext, LosesOverdue, IsPlaceOf, HearsAt, IsMatch, RepliesToNone}
+use Rattle.lookup_core.specs.Gathered.{KeepsFor}
+use Rattle.lookup_core.specs.LookupSteps.{AsksNext, LosesOverdue, IsPlaceOf, HearsAt, IsMatch, RepliesToNone, handed}
 pub use Rattle.lookup_core.specs.Receiving.{IsSoonest}
 use Rattle.lookup_core.specs.Sealed.{Accepts}
 use Rattle.lookup_core.specs.Timeouts.{deadline_of, is_overdue}
@@ -51,10 +52,11 @@ use Rattle.look_many.specs.inner.Crowd.{whose, opens, Holding, IsLegal, NoneAsks
 
 -- ---- a datagram
 
--- the lookup matches it
+-- the lookup matches it, and keeps what it heard
 pub record IsMatchFor (accepts : Accepts) (from : Addr) (bytes : List ℕ) (old new : Seeker) : Type 0 where
   pub heard : List Answered
   pub matches : IsMatch old.quest accepts from bytes old.lookup new.lookup heard
+  pub gathers : KeepsFor old.quest.kind heard old.gathered new.gathered
   pub quest : new.quest ≡ old.quest
   pub holds : Holding new
   pub seat : SameSeat old new
@@ -74,10 +76,11 @@ pub record FirstWaits (accepts : Accepts) (from : Addr) (bytes : List ℕ) (said
   pub none_before : AllByRecursion (λ k. IsNotFor accepts from bytes k) (take found.0 ks)
   pub waits : IsPlaceOf one.quest accepts from bytes said one.lookup found.1
 
--- it hears the reply at that place
+-- it hears the reply at that place, and keeps what was heard
 pub record Hears (place : ℕ) (r : Reply) (old new : Seeker) : Type 0 where
   pub out : Taken
   pub hears : HearsAt old.quest place r old.lookup new.lookup out
+  pub gathers : KeepsFor old.quest.kind (handed out) old.gathered new.gathered
   pub quest : new.quest ≡ old.quest
   pub holds : Holding new
 
@@ -102,6 +105,7 @@ Takes accepts from bytes old new false = AllByRecursion (λ k. IsNotFor accepts 
 -- those overdue at the moment are lost, oldest first
 pub record Expires (at : ℕ) (old new : Seeker) : Type 0 where
   pub loses : LosesOverdue at old.lookup new.lookup
+  pub gathered : new.gathered ≡ old.gathered
   pub quest : new.quest ≡ old.quest
   pub holds : Holding new
   pub seat : SameSeat old new
@@ -129,7 +133,8 @@ pub record IsRunOut (k : Seeker) : Type 0 where
 -- by whether some query is open
 pub data WaitsFor (ks : List Seeker) (progress : Progress) (until : ℕ) (busy : Bool) : Type 0 where
   for_replies : busy ≡ true → queries_of ks ≢ [] → WaitsUntil progress.receives progress.moment (map (λ q. q.deadline) (queries_of ks)) until → progress.foreign < max_strays → WaitsFor ks progress until busy
-  for_others : busy ≡ false → queries_of ks ≡ [] → AllByRecursion IsRunOut ks → 0 < progress.left → is_over progress.end progress.moment ≡ false → until ≡ waits_to progress.end progress.moment → WaitsFor ks progress until busy
+  for_follow_ups : busy ≡ false → queries_of ks ≡ [] → AllByRecursion IsRunOut ks → progress.receives ≢ 0 → until ≡ progress.moment → WaitsFor ks progress until busy
+  for_others : busy ≡ false → queries_of ks ≡ [] → AllByRecursion IsRunOut ks → progress.unsaid ≡ 0 → progress.receives ≡ 0 → 0 < progress.left → is_over progress.end progress.moment ≡ false → until ≡ waits_to progress.end progress.moment → WaitsFor ks progress until busy
 
 -- the most asks of all lookups: sixteen at most, each of which asks no contact twice, nor more than its paths have
 abbrev pub max_all_asks : ℕ
@@ -182,13 +187,13 @@ pub record Comes (accepts : Accepts) (tags : Tags) (server : ServeSetting) (busy
   pub handles : Handles accepts tags server busy from bytes at old mid progress counted host between owed
   pub expires : AllZip (Expires at) mid new
   pub ran : Ran between host' [] (all_lapsed at mid)
-  pub progress_is : progress' ≡ record { moment = at; receives = goes_on progress.receives (length (queries_of new)); foreign = counted.foreign; left = progress.left - 1; end = progress.end; received = progress.received + 1; replied = progress.replied }
+  pub progress_is : progress' ≡ record { moment = at; receives = goes_on progress.receives (length (queries_of new)); foreign = counted.foreign; left = progress.left - 1; end = progress.end; received = progress.received + 1; replied = progress.replied; unsaid = progress.unsaid }
 
 -- no datagram came: all lost who was overdue, and the round is over
 pub record Passes (at : ℕ) (old new : List Seeker) (progress progress' : Progress) (host host' : Hands) : Type 0 where
   pub expires : AllZip (Expires at) old new
   pub ran : Ran host host' [] (all_lapsed at old)
-  pub progress_is : progress' ≡ record { moment = at; receives = 0; foreign = progress.foreign; left = progress.left - 1; end = progress.end; received = progress.received; replied = progress.replied }
+  pub progress_is : progress' ≡ record { moment = at; receives = 0; foreign = progress.foreign; left = progress.left - 1; end = progress.end; received = progress.received; replied = progress.replied; unsaid = progress.unsaid }
 
 -- what is owed was sent, or the link refused it; nothing is sent where nothing is owed
 abbrev pub Pays : Option Owed → Bool → List Event → Type 0
@@ -225,9 +230,11 @@ pub record Received (busy : Bool) (old new : List Seeker) (progress progress' : 
   pub few_receives : progress'.receives < max_round_receives
   pub still : progress'.receives ≢ 0 → queries_of new ≢ []
   pub left : progress'.left ≡ progress.left - 1
+  pub unsaid : progress'.unsaid ≡ progress.unsaid
   pub foreign : progress'.foreign ≤ progress.foreign + 1
   pub few_foreign : busy ≡ true → progress'.foreign < max_strays
   pub same : busy ≡ false → map whose new ≡ map whose old
+  pub same_gathered : busy ≡ false → map (λ k. k.gathered) new ≡ map (λ k. k.gathered) old
   pub none_open : busy ≡ false → queries_of new ≡ []
 
 -- ---- ending early
@@ -276,6 +283,8 @@ pub record EndsEarly (busy : Bool) (fault : ManyFault) (accepts : Accepts) (tags
   pub longer : AllZip Longer old.seekers last.seekers
   pub driven_on : AllZip DrivenOn old.seekers last.seekers
   pub seats : AllZip SameSeat old.seekers last.seekers
+  pub same_whose : busy ≡ false → map whose last.seekers ≡ map whose old.seekers
+  pub same_gathered : busy ≡ false → map (λ k. k.gathered) last.seekers ≡ map (λ k. k.gathered) old.seekers
   pub stops : Stops busy fault accepts tags server last told'
   pub ran_on : RanOn last.host host'
 
@@ -302,14 +311,14 @@ pub record MayAwait (ks : List Seeker) (progress : Progress) : Type 0 where
   pub few_foreign : progress.foreign < max_strays
   pub counted : HasCounted ks progress
 
--- a receive may be made that waits for others than the lookups, which are over
+-- the lookups are over: a follow-up may go out, and where none is left a receive may be made that waits for others
 pub record MayServe (ks : List Seeker) (progress : Progress) : Type 0 where
   pub holds : AllByRecursion Holding ks
   pub none_open : queries_of ks ≡ []
   pub over : AllByRecursion IsRunOut ks
   pub none_asks : AllByRecursion NoneAsks ks
-  pub few_receives : progress.receives < max_round_receives
-  pub room : progress.foreign + progress.left + max_all_asks < 2 ^ 64
+  pub round_over : progress.receives ≡ 0
+  pub room : progress.foreign + progress.left + progress.unsaid + max_all_asks < 2 ^ 64
   pub counted : HasCounted ks progress
 
 -- serving on is over: as many receives were made as are wanted, or the moment told last is at or past the end by time
@@ -402,6 +411,7 @@ pub record SettlesSome (old new : Seeker) : Type 0 where
   pub journal : new.lookup.book.journal ≡ old.lookup.book.journal ++ more
   pub none_driven : driven more ≡ []
   pub no_seeds : seeds more ≡ []
+  pub gathered : new.gathered ≡ old.gathered
   pub holds : Holding new
   pub same : SamePass old.pass new.pass
 

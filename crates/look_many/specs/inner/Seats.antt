@@ -1,33 +1,37 @@
 -- Where several lookups begin.
 use Rattle.std.specs.Prelude.{◌≡◌, ℕ, suc, ◌<◌, List, [], ◌∷◌, map, reverse}
-use Rattle.kad_base.specs.declared.types.Id.{Id}
 use Rattle.claim_book.specs.Legal.{Legal, seeded}
 use Rattle.claim_book.specs.Calls.{Counted}
 use Rattle.claim_book.specs.Result.{result_of}
 use Rattle.claim_book.specs.RunOut.{RunOut}
 use Rattle.claim_book.specs.State.{BookState}
 use Rattle.contact_table.specs.TableState.{TableState}
+use Rattle.lookup_core.specs.declared.gather.Gathered.{Gathered}
+use Rattle.lookup_core.specs.Gathered.{IsBare, IsEachOnce}
 use Rattle.turn_book.specs.Turns.{TurnState}
 use Rattle.peer_store.specs.Peers.{PeersState}
 use Rattle.item_store.specs.Items.{ItemsState}
 use Rattle.serve_crew.specs.Hands.{Hands, TablePass, PeersPass, ItemsPass}
 use Rattle.node_serve.specs.declared.setting.ServeSetting.{ServeSetting}
 use Rattle.look_many.specs.declared.found.ManySetting.{ManySetting}
+use Rattle.look_many.specs.declared.finish.Done.{Done}
 use Rattle.look_many.specs.declared.found.One.{One}
+use Rattle.look_many.specs.declared.job.Job.{Job}
 use Rattle.look_many.specs.declared.seeker.Seeker.{Seeker}
 use Rattle.look_many.specs.ManyLooked.{setting_for, quest_for, seeds_for}
 
 -- a book that begins with the closest contacts of the table
-pub record IsBookFor (server : ServeSetting) (setting : ManySetting) (table : TableState) (target : Id) (book : BookState) : Type 0 where
-  pub setting_is : book.setting ≡ setting_for server setting target
-  pub journal : book.journal ≡ seeded setting.per_address setting.paths (seeds_for server table target)
+pub record IsBookFor (server : ServeSetting) (setting : ManySetting) (table : TableState) (job : Job) (book : BookState) : Type 0 where
+  pub setting_is : book.setting ≡ setting_for server setting job
+  pub journal : book.journal ≡ seeded setting.per_address setting.paths (seeds_for server table job)
   pub legal : Legal book.setting book.journal
 
--- a lookup that has such a book, and asked nobody
-pub record IsSeekerFor (server : ServeSetting) (setting : ManySetting) (table : TableState) (target : Id) (k : Seeker) : Type 0 where
-  pub book : IsBookFor server setting table target k.lookup.book
-  pub quest : k.quest ≡ quest_for server setting target
+-- a lookup that has such a book, asked nobody and gathered nothing
+pub record IsSeekerFor (server : ServeSetting) (setting : ManySetting) (table : TableState) (job : Job) (k : Seeker) : Type 0 where
+  pub book : IsBookFor server setting table job k.lookup.book
+  pub quest : k.quest ≡ quest_for server setting job
   pub none_open : k.lookup.queries ≡ []
+  pub bare : IsBare k.gathered
 
 -- ---- where they end
 
@@ -42,6 +46,21 @@ pub record IsDone (book : BookState) (one : One) : Type 0 where
   pub run_out : (p : ℕ) → p < book.setting.paths → RunOut book.setting p one.journal
   pub found : one.found ≡ result_of book.setting one.journal
   pub counted : Counted one.journal one.counts
+
+-- what it gathered, handed out: the peers each once and in order
+pub record IsHanded (gathered : Gathered) (one : One) : Type 0 where
+  pub peers : IsEachOnce gathered.peers one.peers
+  pub tokens : one.tokens ≡ gathered.tokens
+  pub items : one.items ≡ gathered.items
+
+-- what is left of a lookup
+abbrev pub done_of : Seeker → Done
+done_of k = record { book = k.lookup.book; gathered = k.gathered }
+
+-- and what that found
+pub record IsOutcome (done : Done) (one : One) : Type 0 where
+  pub found : IsDone done.book one
+  pub handed : IsHanded done.gathered one
 
 -- lookups in a row, the first of which calls in this role
 abbrev pub RolesFrom : ℕ → List Seeker → Type 0

@@ -10,25 +10,25 @@ pub returns-clause-asks : goal.returns-clause-asks
 returns-clause-asks g c asked accepts tags server host =
     let r = c.requires in
     let a = c.ask_next.ensures in
-    asks_one accepts tags server host c.args.i c.args.path c.args.words.now c.ask_next.new.words c.args.seekers.now c.index-seekers-i.result c.ask_next.new.seeker c.args.progress.now _ _ r.may r.none_before r.within a.quest a.seat a.holds (a.drawn asked) (a.some asked)
+    asks_one accepts tags server host c.args.i c.args.path c.args.words.now c.ask_next.new.words c.args.seekers.now c.index-seekers-i.result c.ask_next.new.seeker c.args.progress.now _ _ r.may r.none_before r.within a.quest a.gathered a.seat a.holds (a.drawn asked) (a.some asked)
 
 pub returns-clause-one : goal.returns-clause-one
 returns-clause-one g c asked =
     let r = c.requires in
     let a = c.ask_next.ensures in
-    (leaves_all c.args.i c.args.path c.args.words.now c.ask_next.new.words c.args.seekers.now c.index-seekers-i.result c.ask_next.new.seeker c.args.progress.now _ _ r.may r.none_before r.within a.quest a.seat a.holds (a.drawn asked) (a.some asked)).one
+    (leaves_all c.args.i c.args.path c.args.words.now c.ask_next.new.words c.args.seekers.now c.index-seekers-i.result c.ask_next.new.seeker c.args.progress.now _ _ r.may r.none_before r.within a.quest a.gathered a.seat a.holds (a.drawn asked) (a.some asked)).one
 
 pub returns-clause-may : goal.returns-clause-may
 returns-clause-may g c asked =
     let r = c.requires in
     let a = c.ask_next.ensures in
-    (leaves_all c.args.i c.args.path c.args.words.now c.ask_next.new.words c.args.seekers.now c.index-seekers-i.result c.ask_next.new.seeker c.args.progress.now _ _ r.may r.none_before r.within a.quest a.seat a.holds (a.drawn asked) (a.some asked)).may
+    (leaves_all c.args.i c.args.path c.args.words.now c.ask_next.new.words c.args.seekers.now c.index-seekers-i.result c.ask_next.new.seeker c.args.progress.now _ _ r.may r.none_before r.within a.quest a.gathered a.seat a.holds (a.drawn asked) (a.some asked)).may
 
 pub returns-clause-none_before : goal.returns-clause-none_before
 returns-clause-none_before g c asked =
     let r = c.requires in
     let a = c.ask_next.ensures in
-    (leaves_all c.args.i c.args.path c.args.words.now c.ask_next.new.words c.args.seekers.now c.index-seekers-i.result c.ask_next.new.seeker c.args.progress.now _ _ r.may r.none_before r.within a.quest a.seat a.holds (a.drawn asked) (a.some asked)).none
+    (leaves_all c.args.i c.args.path c.args.words.now c.ask_next.new.words c.args.seekers.now c.index-seekers-i.result c.ask_next.new.seeker c.args.progress.now _ _ r.may r.none_before r.within a.quest a.gathered a.seat a.holds (a.drawn asked) (a.some asked)).none
 
 pub returns-clause-none : goal.returns-clause-none
 returns-clause-none g c idle =

@@ -33,7 +33,7 @@ returns-clause-ok g c =
     let w = c.work-answer in
     let limit : c.from-limit.result ≡ c.args.table.per_address = c.from-limit.ensures ∙ c.per_address.ensures ∙ ap (λ (t : TableState). t.per_address) c.take_room.ensures.table in
     ok_looked
-    (task (g.G.SealCheck.accepted c.args.seal.now) (g.G.Seal.tag_of c.args.seal.now) c.args.server.now c.args.setting.now c.args.targets.now c.args.lasting)
+    (task (g.G.SealCheck.accepted c.args.seal.now) (g.G.Seal.tag_of c.args.seal.now) c.args.server.now c.args.setting.now c.args.jobs.now c.args.lasting)
     (rows c.in-Ok-new.opened.0 c.in-Ok-new-2.opened.0 c.in-Ok-new-3.opened.0 c.work-answer.new.table_row.passes c.work-answer.new.peers_row.passes c.work-answer.new.items_row.passes) c.args.table c.close-table-2.result.0 c.close-table-2.result.1.calls
     c.close.result.0 c.close.result.1.calls c.close-2.result.0 c.close-2.result.1.calls c.close-table-2.ensures c.close.ensures c.close-2.ensures (c.in-Ok-new.ensures.state ∙ c.take_room.ensures.table) (c.in-Ok-new-2.ensures.state ∙ c.limited-peers.ensures ∙ ap no_peers limit)
     (c.in-Ok-new-3.ensures.state ∙ c.limited-items.ensures ∙ ap no_items limit) c.requires.limits c.requires.small c.args.words.now w.new.words (g.L.Link.told c.args.link.now) (g.L.Link.told w.new.link) w.result w.ensures.ok
@@ -43,7 +43,7 @@ returns-clause-stopped g c =
     let w = c.work-answer in
     let limit : c.from-limit.result ≡ c.args.table.per_address = c.from-limit.ensures ∙ c.per_address.ensures ∙ ap (λ (t : TableState). t.per_address) c.take_room.ensures.table in
     err_stopped
-    (task (g.G.SealCheck.accepted c.args.seal.now) (g.G.Seal.tag_of c.args.seal.now) c.args.server.now c.args.setting.now c.args.targets.now c.args.lasting)
+    (task (g.G.SealCheck.accepted c.args.seal.now) (g.G.Seal.tag_of c.args.seal.now) c.args.server.now c.args.setting.now c.args.jobs.now c.args.lasting)
     (rows c.in-Ok-new.opened.0 c.in-Ok-new-2.opened.0 c.in-Ok-new-3.opened.0 c.work-answer.new.table_row.passes c.work-answer.new.peers_row.passes c.work-answer.new.items_row.passes) c.args.table c.close-table-2.result.0 c.close-table-2.result.1.calls
     c.close.result.0 c.close.result.1.calls c.close-2.result.0 c.close-2.result.1.calls c.close-table-2.ensures c.close.ensures c.close-2.ensures (c.in-Ok-new.ensures.state ∙ c.take_room.ensures.table) (c.in-Ok-new-2.ensures.state ∙ c.limited-peers.ensures ∙ ap no_peers limit)
     (c.in-Ok-new-3.ensures.state ∙ c.limited-items.ensures ∙ ap no_items limit) c.requires.limits c.requires.small c.args.words.now w.new.words (g.L.Link.told c.args.link.now) (g.L.Link.told w.new.link) w.result w.ensures.stopped

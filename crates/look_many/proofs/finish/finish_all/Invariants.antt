@@ -1,9 +1,13 @@
 use Rattle.std.proofs.Common.{length}
+use Rattle.look_many.specs.ManyLooked.{AreSent}
 use Rattle.look_many.proofs.Seating.{Finishing}
 use Rattle.look_many.proofs.finish.finish_all.Given as goal
 
-abbrev pub invariant-loop-book : goal.invariant-loop-book
-invariant-loop-book l = Finishing l.fn.books.items l.books.items l.ones
+abbrev pub invariant-loop-done : goal.invariant-loop-done
+invariant-loop-done l = record {
+  found : Finishing l.fn.all.items l.all.items l.ones;
+  sent : AreSent l.said 0 l.ones;
+}
 
-abbrev pub decreases-loop-book : goal.decreases-loop-book
-decreases-loop-book l = length l.books.items
+abbrev pub decreases-loop-done : goal.decreases-loop-done
+decreases-loop-done l = length l.all.items

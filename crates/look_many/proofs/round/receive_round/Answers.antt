@@ -30,7 +30,7 @@ pub returns-in-Err-receive-clause-stops : goal.returns-in-Err-receive-clause-sto
 returns-in-Err-receive-clause-stops g c words =
     let h = c.receiving.invariant in
     ends_after true c.in-Err-receive.fault (g.G.SealCheck.accepted c.args.seal.now) (g.G.Seal.tag_of c.args.seal.now) c.args.desk.now.setting.now (stand c.args.seekers.now c.args.progress.now words c.args.host.now (g.L.Link.told c.args.link.now))
-    (stand c.receiving.seekers c.receiving.progress words c.receiving.host (g.L.Link.told c.receiving.link)) c.receive-in-receiving.new.host (g.L.Link.told c.receive-in-receiving.new.link) h.same (stays_received c.args.seekers.now c.receiving.seekers c.args.progress.now c.receiving.progress h.received) (h.goes words) (c.in-Err-receive.ensures.stops words)
+    (stand c.receiving.seekers c.receiving.progress words c.receiving.host (g.L.Link.told c.receiving.link)) c.receive-in-receiving.new.host (g.L.Link.told c.receive-in-receiving.new.link) h.same (stays_received c.args.seekers.now c.receiving.seekers c.args.progress.now c.receiving.progress h.received) (λ idle. absurd cc) (λ idle. absurd cc) (h.goes words) (c.in-Err-receive.ensures.stops words)
 
 pub returns-in-Err-receive-clause-strays : goal.returns-in-Err-receive-clause-strays
 returns-in-Err-receive-clause-strays g c is words =

@@ -10,7 +10,9 @@ use Rattle.look_many.proofs.serving.serve_on.Given as goal
 abbrev pub invariant-serving : goal.invariant-serving
 invariant-serving g l = record {
   may : MayServe l.seekers l.progress;
+  said : l.progress.unsaid ≡ 0;
   journals : map whose l.seekers ≡ map whose l.fn.seekers;
+  gathered : map (λ k. k.gathered) l.seekers ≡ map (λ k. k.gathered) l.fn.seekers;
   goes : (words : WordsState) → Advances false [] (g.G.SealCheck.accepted l.seal) (g.G.Seal.tag_of l.seal) l.desk.setting.now (stand l.fn.seekers l.fn.progress words l.fn.host (g.L.Link.told l.fn.link)) (stand l.seekers l.progress words l.host (g.L.Link.told l.link));
   same : SameHands l.fn.host l.host;
   room : length l.buf ≡ max_datagram + 1;

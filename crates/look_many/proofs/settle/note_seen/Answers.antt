@@ -5,7 +5,7 @@ use Rattle.look_many.proofs.settle.note_seen.Goals as goal
 
 pub returns-clause-ok : goal.returns-clause-ok
 returns-clause-ok g c =
-    on_note c.args.path _ c.args.seeker.now _ c.args.contact c.apply.result c.requires.can.holds (worker_path c.args.path) c.requires.first c.apply.ensures.step c.apply.ensures.after refl refl c.notify_seen.ensures.same c.in-Ok.ensures.ok
+    on_note c.args.path _ c.args.seeker.now _ c.args.contact c.apply.result c.requires.can.holds (worker_path c.args.path) c.requires.first c.apply.ensures.step c.apply.ensures.after refl refl refl c.notify_seen.ensures.same c.in-Ok.ensures.ok
 
 pub returns-in-Err-clause-err : goal.returns-in-Err-clause-err
-returns-in-Err-clause-err g c = some_none c.args.seeker.now _ c.requires.can.holds refl refl c.notify_seen.ensures.same
+returns-in-Err-clause-err g c = some_none c.args.seeker.now _ c.requires.can.holds refl refl refl c.notify_seen.ensures.same

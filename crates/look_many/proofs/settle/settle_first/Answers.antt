@@ -13,5 +13,5 @@ returns-clause-ok g c =
       | in-Alive+in-Ok w ↦ rw (w.result-is, w.seeker-is) (subst (λ (b : BookState). SettlesOn c.args.path (record old { lookup = record old.lookup { book = b } }) w.note_seen.new.seeker) after w.in-Ok.ensures.ok)
       | in-Alive+in-Err w ↦ rw w.result-is tt
       | in-Report w ↦ rw (w.result-is, w.seeker-is) (subst (λ (b : BookState). SettlesOn c.args.path (record old { lookup = record old.lookup { book = b } }) w.settle_report.new.seeker) after w.settle_report.ensures)
-      | in_default w ↦ rw (w.result-is, w.seeker-is) (on_none c.args.path old (record old { lookup = record old.lookup { book = c.apply.new.self } }) c.requires.can.holds refl (ap (λ (b : BookState). record old.lookup { book = b }) after) refl)
+      | in_default w ↦ rw (w.result-is, w.seeker-is) (on_none c.args.path old (record old { lookup = record old.lookup { book = c.apply.new.self } }) c.requires.can.holds refl refl (ap (λ (b : BookState). record old.lookup { book = b }) after) refl)
     ]

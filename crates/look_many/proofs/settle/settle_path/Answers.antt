@@ -3,7 +3,7 @@ use Rattle.look_many.proofs.Settling.{on_none, on_then, some_then, can_still}
 use Rattle.look_many.proofs.settle.settle_path.Goals as goal
 
 pub loop-init : goal.loop-init
-loop-init g c = on_none c.args.path c.args.seeker.now c.args.seeker.now c.requires.can.holds refl refl refl
+loop-init g c = on_none c.args.path c.args.seeker.now c.args.seeker.now c.requires.can.holds refl refl refl refl
 
 pub settle_first-requires-clause-can : goal.settle_first-requires-clause-can
 settle_first-requires-clause-can g c = can_still c.args.tables.now c.args.seeker.now c.loop.seeker c.requires.can c.loop.invariant.some

@@ -8,4 +8,4 @@ pub returns : goal.returns
 returns g c =
     on_report c.args.path _ c.args.seeker.now _ c.of-checked.result c.apply.result c.requires.holds (worker_path c.args.path)
     (record { first = c.requires.first ∙ ap (λ r. Some (Told r)) (sym c.of-checked.ensures.report); policy = c.of-checked.ensures.policy ∙ c.requires.policy })
-    c.apply.ensures.step c.apply.ensures.after refl refl refl
+    c.apply.ensures.step c.apply.ensures.after refl refl refl refl

@@ -1,0 +1,298 @@
+//! What follows the lookups once all of them are over: queries to contacts that they found, of whose answers nothing is kept.
+ghost use Rattle.std.specs.Prelude.{◌≡◌, ◌≤◌, ◌<◌, ◌+◌, ◌-◌, ◌^◌, ◌++◌, ◌∷◌, [], cond, drop, length, replicate, reverse, take, false, IfOk, IfErr, OnErr, OnOk, IsErrOf};
+ghost use Rattle.std.specs.List.{AllByRecursion, AllZip};
+ghost use Rattle.kad_base.specs.Limits.{max_datagram};
+ghost use Rattle.kad_base.specs.Failing.{FailsLast};
+ghost use Rattle.kad_base.specs.Outside.{Grows, Rose};
+ghost use Rattle.kad_base.specs.Words.{word, word_bytes};
+ghost use Rattle.kad_krpc.specs.declared.message.Message.TheVariants as Message;
+ghost use Rattle.kad_krpc.specs.Form.{form, IsWritableAsk};
+ghost use Rattle.node_serve.specs.Calls.{IsSetting};
+ghost use Rattle.node_serve.specs.Receives.{tried};
+ghost use Rattle.serve_crew.specs.Hands.{SameHands};
+ghost use Rattle.look_many.specs.Many.{follow_bytes};
+ghost use Rattle.look_many.specs.inner.Crowd.{SameSeat, stand};
+ghost use Rattle.look_many.specs.inner.ManySteps.{IsOfDesk, MayServe};
+ghost use Rattle.look_many.specs.inner.Following.{CarriesOf, EndsSaying, IsNext, Says};
+
+use crate::host::Desk;
+use crate::legal::all_legal;
+use crate::receive::receive_until;
+use crate::seeker::{ManyFault, Progress, Seeker};
+use id_puzzles::Words;
+use kad_base::{Addr, Link, List, NoMemory, put_bytes};
+use kad_krpc::{Ask, Message, encode};
+use seal_tags::{Seal, SealCheck};
+use serve_crew::ServeWorker;
+use std::alloc::Global;
+use std::sync::Wait;
+
+/// A query that follows a lookup, as that a node be known as a peer (BEP 5), or that an item be kept (BEP 44): the number of
+/// the lookup, to whom it goes, and what is asked.
+#[derive(Debug, Drop, PartialEq, Eq)]
+pub struct FollowUp {
+    pub owner: u64,
+    pub to: Addr,
+    pub ask: Ask,
+}
+
+/// The query as a datagram whose transaction id is to be written yet, so that no word is drawn for a query for which there
+/// is no memory. The node answers others, so it isn't read-only (BEP 43).
+fn datagram(alloc: Global, ask: Ask) -> Result<Vec<u8>, NoMemory>
+    requires { IsWritableAsk ask }
+    ensures { IfOk result (λ bytes. bytes.items ≡ form (Message.Query (replicate 4 0) false ask)) }
+{
+    let tx = match List::from_slice(alloc, &[0u8; 4]) {
+        Ok(tx) => tx,
+        Err(NoMemory) => return Err(NoMemory),
+    };
+    let message = Message::Query {
+        tx,
+        read_only: false,
+        ask,
+    };
+    match encode(alloc, &message) {
+        Ok(bytes) => Ok(bytes.into_vec()),
+        Err(NoMemory) => Err(NoMemory),
+    }
+}
+
+/// Writes the transaction id of a query, which stands before its last seven bytes.
+fn write_tx(bytes: &mut [u8], tx: u32)
+    requires { 11 ≤ length bytes.old }
+    ensures { bytes.new ≡ take (length bytes.old - 11) bytes.old ++ word_bytes tx
+        ++ drop (length bytes.old - 7) bytes.old }
+{
+    put_bytes(bytes, bytes.len() - 11, &tx.to_le_bytes());
+}
+
+/// Sends what is asked under the next word, which is drawn only where there is memory for the datagram; false where the link
+/// couldn't send it.
+fn send_one<L: Link>(
+    alloc: Global,
+    link: &mut L,
+    words: &mut Words,
+    to: Addr,
+    ask: Ask,
+) -> Result<bool, NoMemory>
+    requires carried { IsWritableAsk ask }
+    requires place { words.old.place < 2 ^ 60 }
+    ensures ok { IfOk result (λ was_sent. Grows (L.told link.old) (L.told link.new)
+        (λ es. es ≡ tried was_sent to (follow_bytes (word words.old.seed words.old.place) ask) ∷ [])) }
+    ensures drawn { OnOk result (words.new ≡ record words.old { place = words.old.place + 1 }) }
+    ensures same_words { OnErr result (words.new ≡ words.old) }
+    ensures same_told { OnErr result (L.told link.new ≡ L.told link.old) }
+    ensures moment { L.moment link.new ≡ L.moment link.old }
+    ensures recv_faults { L.recv_faults link.new ≡ L.recv_faults link.old }
+    ensures send_faults { L.send_faults link.old ≤ L.send_faults link.new }
+    ensures kept { L.kept link.new ≡ L.kept link.old }
+{
+    let mut bytes = match datagram(alloc, ask) {
+        Ok(bytes) => bytes,
+        Err(NoMemory) => return Err(NoMemory),
+    };
+    let tx = words.next();
+    write_tx(bytes.as_mut_slice(), tx);
+    match link.send(to, bytes.as_slice()) {
+        Ok(()) => Ok(true),
+        Err(_) => Ok(false),
+    }
+}
+
+/// One follow-up less has still to go out, and it begins a round of one receive.
+fn begin_round(progress: &mut Progress)
+    requires { 0 < progress.old.unsaid }
+    ensures { progress.new ≡ record progress.old { receives = 1; unsaid = progress.old.unsaid - 1 } }
+{
+    progress.receives = 1;
+    progress.unsaid -= 1;
+}
+
+/// Sends a follow-up, and writes down whose it is, twice where it was sent. The room for that is taken first, so that none is
+/// sent without its owner.
+fn say<L: Link>(
+    alloc: Global,
+    link: &mut L,
+    progress: &mut Progress,
+    words: &mut Words,
+    owners: &mut Vec<u64>,
+    said: &mut Vec<u64>,
+    follow: FollowUp,
+) -> Result<bool, NoMemory>
+    requires carried { CarriesOf follow }
+    requires place { words.old.place < 2 ^ 60 }
+    requires some { 0 < progress.old.unsaid }
+    ensures ok { IfOk result (λ was_sent. Grows (L.told link.old) (L.told link.new)
+        (λ es. es ≡ tried was_sent follow.to (follow_bytes (word words.old.seed words.old.place) follow.ask) ∷ [])) }
+    ensures drawn { OnOk result (words.new ≡ record words.old { place = words.old.place + 1 }) }
+    ensures owners { OnOk result (owners.new.items ≡ owners.old.items ++ follow.owner ∷ []) }
+    ensures said { IfOk result (λ was_sent. said.new.items
+        ≡ said.old.items ++ cond was_sent (follow.owner ∷ []) []) }
+    ensures progress { OnOk result (progress.new
+        ≡ record progress.old { receives = 1; unsaid = progress.old.unsaid - 1 }) }
+    ensures same_words { OnErr result (words.new ≡ words.old) }
+    ensures same_told { OnErr result (L.told link.new ≡ L.told link.old) }
+    ensures moment { L.moment link.new ≡ L.moment link.old }
+    ensures recv_faults { L.recv_faults link.new ≡ L.recv_faults link.old }
+    ensures send_faults { L.send_faults link.old ≤ L.send_faults link.new }
+    ensures kept { L.kept link.new ≡ L.kept link.old }
+{
+    if owners.reserve(1).is_err() {
+        return Err(NoMemory);
+    }
+    if said.reserve(1).is_err() {
+        return Err(NoMemory);
+    }
+    let FollowUp { owner, to, ask } = follow;
+    match send_one(alloc, link, words, to, ask) {
+        Ok(true) => {
+            owners.push_reserved(owner);
+            said.push_reserved(owner);
+            begin_round(progress);
+            Ok(true)
+        }
+        Ok(false) => {
+            owners.push_reserved(owner);
+            begin_round(progress);
+            Ok(false)
+        }
+        Err(NoMemory) => Err(NoMemory),
+    }
+}
+
+/// Sends a follow-up, and makes one receive call behind it, which waits for nothing: what came is answered.
+fn follow_one<R: Wait, L: Link, G: Seal + SealCheck>(
+    rt: &R,
+    alloc: Global,
+    link: &mut L,
+    desk: &Desk,
+    host: &mut ServeWorker,
+    seekers: &mut [Seeker],
+    progress: &mut Progress,
+    words: &mut Words,
+    owners: &mut Vec<u64>,
+    said: &mut Vec<u64>,
+    seal: &G,
+    follow: FollowUp,
+    buf: &mut [u8],
+    out: &mut [u8; 4096],
+) -> Result<(), ManyFault>
+    requires setting { IsSetting desk.now.setting.now }
+    requires own { IsOfDesk desk.now host.old }
+    requires may { MayServe seekers.old progress.old }
+    requires some { 0 < progress.old.unsaid }
+    requires carried { CarriesOf follow }
+    requires place { words.old.place < 2 ^ 60 }
+    requires room { length buf.old ≡ max_datagram + 1 }
+    requires moment { L.moment link.old ≡ progress.old.moment }
+    ensures same { SameHands host.old host.new }
+    ensures len { length seekers.new ≡ length seekers.old }
+    ensures seats { AllZip SameSeat seekers.old seekers.new }
+    ensures says { OnOk result ((follows : List FollowUp) → IsNext follows progress.old follow
+        → Says follows (G.accepted seal.now) (G.tag_of seal.now) desk.now.setting.now
+        (stand seekers.old progress.old words.old host.old (L.told link.old))
+        (stand seekers.new progress.new words.new host.new (L.told link.new))
+        owners.old.items owners.new.items said.old.items said.new.items) }
+    ensures may { OnOk result (MayServe seekers.new progress.new) }
+    ensures unsaid { OnOk result (progress.new.unsaid ≡ progress.old.unsaid - 1) }
+    ensures place { OnOk result (words.new.place ≡ words.old.place + 1) }
+    ensures moment { OnOk result (L.moment link.new ≡ progress.new.moment) }
+    ensures stops { IfErr result (λ fault. (follows : List FollowUp) → IsNext follows progress.old follow
+        → EndsSaying fault follows (G.accepted seal.now) (G.tag_of seal.now) desk.now.setting.now
+        (stand seekers.old progress.old words.old host.old (L.told link.old)) words.new host.new
+        (L.told link.new)) }
+    ensures strays { ¬ IsErrOf result ManyFault.Strays }
+    ensures link { IsErrOf result ManyFault.LinkFault
+        → Rose (L.recv_faults link.old) (L.recv_faults link.new) }
+    ensures last { IsErrOf result ManyFault.LinkFault
+        → FailsLast L.told L.recv_faults link.old link.new }
+    ensures recv_faults { L.recv_faults link.old ≤ L.recv_faults link.new }
+    ensures send_faults { L.send_faults link.old ≤ L.send_faults link.new }
+    ensures well { ¬ IsErrOf result ManyFault.LinkFault
+        → L.recv_faults link.new ≡ L.recv_faults link.old }
+    ensures kept { L.kept link.new ≡ L.kept link.old }
+{
+    all_legal(seekers);
+    match say(alloc, link, progress, words, owners, said, follow) {
+        Ok(_) => {}
+        Err(NoMemory) => return Err(ManyFault::NoMemory),
+    }
+    let until = progress.moment;
+    match receive_until(
+        rt, alloc, link, desk, host, seekers, progress, seal, false, until, buf, out,
+    ) {
+        Ok(()) => Ok(()),
+        Err(fault) => Err(fault),
+    }
+}
+
+/// The follow-ups as they are taken from, the first one last.
+fn last_first(plan: List<FollowUp>) -> Vec<FollowUp>
+    ensures { reverse result.items ≡ plan }
+{
+    let mut left = plan.into_vec();
+    left.as_mut_slice().reverse();
+    left
+}
+
+/// Sends all follow-ups in order, where all lookups are over. What comes meanwhile is answered.
+pub(crate) fn follow_all<R: Wait, L: Link, G: Seal + SealCheck>(
+    rt: &R,
+    alloc: Global,
+    link: &mut L,
+    desk: &Desk,
+    host: &mut ServeWorker,
+    seekers: &mut [Seeker],
+    progress: &mut Progress,
+    words: &mut Words,
+    owners: &mut Vec<u64>,
+    said: &mut Vec<u64>,
+    seal: &G,
+    plan: List<FollowUp>,
+    buf: &mut [u8],
+    out: &mut [u8; 4096],
+) -> Result<(), ManyFault>
+    requires setting { IsSetting desk.now.setting.now }
+    requires own { IsOfDesk desk.now host.old }
+    requires may { MayServe seekers.old progress.old }
+    requires unsaid { progress.old.unsaid ≡ length plan }
+    requires carried { AllByRecursion CarriesOf plan }
+    requires place { words.old.place + length plan ≤ 2 ^ 60 }
+    requires room { length buf.old ≡ max_datagram + 1 }
+    requires moment { L.moment link.old ≡ progress.old.moment }
+    ensures same { SameHands host.old host.new }
+    ensures len { length seekers.new ≡ length seekers.old }
+    ensures seats { AllZip SameSeat seekers.old seekers.new }
+    ensures says { OnOk result (Says plan (G.accepted seal.now) (G.tag_of seal.now) desk.now.setting.now
+        (stand seekers.old progress.old words.old host.old (L.told link.old))
+        (stand seekers.new progress.new words.new host.new (L.told link.new))
+        owners.old.items owners.new.items said.old.items said.new.items) }
+    ensures unsaid { OnOk result (progress.new.unsaid ≡ 0) }
+    ensures moment { OnOk result (L.moment link.new ≡ progress.new.moment) }
+    ensures stops { IfErr result (λ fault. EndsSaying fault plan
+        (G.accepted seal.now) (G.tag_of seal.now) desk.now.setting.now
+        (stand seekers.old progress.old words.old host.old (L.told link.old)) words.new host.new
+        (L.told link.new)) }
+    ensures strays { ¬ IsErrOf result ManyFault.Strays }
+    ensures link { IsErrOf result ManyFault.LinkFault
+        → Rose (L.recv_faults link.old) (L.recv_faults link.new) }
+    ensures last { IsErrOf result ManyFault.LinkFault
+        → FailsLast L.told L.recv_faults link.old link.new }
+    ensures recv_faults { L.recv_faults link.old ≤ L.recv_faults link.new }
+    ensures send_faults { L.send_faults link.old ≤ L.send_faults link.new }
+    ensures well { ¬ IsErrOf result ManyFault.LinkFault
+        → L.recv_faults link.new ≡ L.recv_faults link.old }
+    ensures kept { L.kept link.new ≡ L.kept link.old }
+{
+    let mut left = last_first(plan);
+    'following: while let Some(follow) = left.pop() {
+        match follow_one(
+            rt, alloc, link, desk, host, seekers, progress, words, owners, said, seal, follow, buf,
+            out,
+        ) {
+            Ok(()) => {}
+            Err(fault) => return Err(fault),
+        }
+    }
+    Ok(())
+}
