@@ -1,5 +1,7 @@
 pub mod AtOnce
-pub mod FindLaws
+pub mod JobForms
+pub mod JobLaws
+pub mod JobTexting
 pub mod OneText
 pub mod Saving
 pub mod Serving

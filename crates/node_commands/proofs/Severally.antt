@@ -1,6 +1,6 @@
 -- The command `node`, from its input to its end.
 use Rattle.std.proofs.Common.{◌≡◌, ◌≢◌, ℕ, ◌≤◌, List, [], ◌∷◌, ◌++◌, length, map, Bool, Option, None, inl, inr, refl, sym, ap, subst, ◌∙◌, arith}
-use Rattle.std.specs.List.{All, AllZip}
+use Rattle.std.specs.List.{All, AllByRecursion, AllZip}
 use Rattle.kad_base.specs.declared.types.Contact.{Contact}
 use Rattle.kad_base.specs.declared.types.Event.{Event}
 use Rattle.kad_base.specs.declared.types.Event.TheVariants.{Got}
@@ -16,9 +16,6 @@ use Rattle.id_puzzles.specs.Drawn.{WordsState}
 use Rattle.contact_table.specs.TableState.{TableState}
 use Rattle.contact_table.specs.TableStep.{contacts_of}
 use Rattle.contact_table.specs.Told.{limited_table}
-use Rattle.claim_book.specs.declared.types.Setting.{Setting}
-use Rattle.claim_book.specs.Journal.{asked, failed, turned}
-use Rattle.claim_book.specs.Result.{result_of}
 use Rattle.claim_book.proofs.Claims.{took_distinct, asked_distinct}
 use Rattle.claim_book.proofs.Ends.{found_answered}
 use Rattle.claim_book.proofs.Hosted.{has_few}
@@ -27,10 +24,12 @@ use Rattle.node_serve.specs.Calls.{IsSetting}
 use Rattle.node_serve.specs.declared.lasting.Lasting.{Lasting}
 use Rattle.node_serve.specs.declared.setting.ServeSetting.{ServeSetting}
 use Rattle.node_tokens.specs.Tokens.{TokensState, tokens_by}
+use Rattle.look_many.specs.Job.{MaySayOf}
 use Rattle.look_many.specs.ManyLooked.{CountsUnsent, IsFound, IsWithinLimits, ManyLooked, ManyStopped, journals_of, setting_for}
 use Rattle.look_many.specs.declared.found.Many.{Many}
 use Rattle.look_many.specs.declared.found.ManySetting.{ManySetting}
 use Rattle.look_many.specs.declared.found.One.{One}
+use Rattle.look_many.specs.declared.job.Job.{Job}
 use Rattle.look_many.specs.declared.seeker.ManyFault.{ManyFault}
 use Rattle.look_many.specs.declared.seeker.ManyFault.TheVariants as fault
 use Rattle.kad_words.specs.declared.command.LookWords.{LookWords}
@@ -38,66 +37,68 @@ use Rattle.kad_words.specs.declared.command.NodeWords.{NodeWords}
 use Rattle.command_base.specs.declared.status.Status.{Status}
 use Rattle.command_base.specs.declared.status.Status.TheVariants.{LinkFault, Strays, NoSeeds}
 use Rattle.command_base.specs.Called.{Called}
-use Rattle.node_commands.specs.Several.{EndsFinds, FindsCause, GivesNobody, GivesStart, HasLookedTo, HasRunOutFor, HasStopped, LooksFrom, Names, NamesCause, NodeCause, NodeEnds, NodeGoesWell, NodeRan, NodeText, ShowsLastForeign, Starts, TellsFinds, each_of, journal_texts, lasting_of, node_aim, node_promise, printed_each, printed_many, server_of}
+use Rattle.node_commands.specs.Several.{EndsJobs, StartsCause, GivesNobody, GivesStart, HasLookedTo, HasRunOutFor, HasStopped, IsPrinted, LooksFrom, Names, NamesCause, NodeCause, NodeEnds, NodeGoesWell, NodeRan, NodeText, ShowsLastForeign, Starts, TellsJobs, each_of, lasting_of, node_aim, node_promise, server_of}
 use Rattle.command_base.specs.Endings.{number_of}
-use Rattle.node_commands.specs.FindLines.{AreGoodFinds, IsBadFind, Naming}
+use Rattle.node_commands.specs.JobLines.{AreGoodJobs, IsBadJob, Naming}
 use Rattle.command_base.specs.Input.{Admits, Keeps, ReadsAs}
 use Rattle.kad_text.specs.Lines.{lines}
-use Rattle.command_base.specs.Printed.{printed_of, line_of, printed}
-use Rattle.node_commands.specs.Printed.{find_text, printed_served, WithTable}
+use Rattle.node_commands.specs.JobTexts.{AreTextsOf}
+use Rattle.node_commands.proofs.JobTexting.{all_by_journal}
 use Rattle.command_base.specs.Promise.{IsOneOf, reading}
 use Rattle.command_base.specs.Shown.{Shown}
 use Rattle.command_base.specs.Started.{drawn_of, own_of, seen_call, IsInRange}
 use Rattle.command_base.proofs.Starting.{admits_usable, usable_told}
 use Rattle.command_base.proofs.Exactly.{added_once, admits_once, input_once}
-use Rattle.node_commands.proofs.FindLaws.{named_or_bad, reports_once, targets_once}
+use Rattle.node_commands.proofs.JobLaws.{jobs_carried, jobs_once, named_or_bad, reports_once}
 use Rattle.command_base.proofs.Lawful.{Lawful}
 use Rattle.node_commands.proofs.Serving.{kept_pass}
 use Rattle.command_base.proofs.Staged.{Behind, reading_lawful}
 
 -- ---- its input
 
-finds_apart : (input : List ℕ) (number : ℕ) → AreGoodFinds input → IsBadFind input number → ⊥
-finds_apart input number good bad = named_or_bad (lines input) good.0 good.1 number good.2 bad
+jobs_apart : (input : List ℕ) (number : ℕ) → AreGoodJobs input → IsBadJob input number → ⊥
+jobs_apart input number good bad = named_or_bad (lines input) good.0 good.1 number good.2 bad
 
-names_good : (source : Shown ℕ) (reports : List Report) (targets : List Id) → Names source reports targets → ReadsAs AreGoodFinds source
-names_good source reports targets n = record { input = n.input; read = n.read; is_good = (reports, targets, n.good_lines) }
+names_good : (source : Shown ℕ) (reports : List Report) (jobs : List Job) → Names source reports jobs → ReadsAs AreGoodJobs source
+names_good source reports jobs n = record { input = n.input; read = n.read; is_good = (reports, jobs, n.good_lines) }
 
 -- an input gives a start or nobody
 start_or_nobody : (look : LookWords) (random : List ℕ) (source : Shown ℕ) → source.after ≢ None → GivesStart look random source → GivesNobody look random source → ⊥
 start_or_nobody look random source told s n =
     let same = input_once source.before source.after s.names.input n.names.input told s.names.read n.names.read in
-    let good = subst (λ (l : List ℕ). Naming (lines l) s.reports s.targets) same s.names.good_lines in
-    let reports = reports_once (lines n.names.input) s.reports n.reports s.targets n.targets good n.names.good_lines in
-    let targets = targets_once (lines n.names.input) s.reports n.reports s.targets n.targets good n.names.good_lines in
-    let some_target : s.targets ≢ [] = (λ e. n.some_target (sym targets ∙ e)) in
+    let good = subst (λ (l : List ℕ). Naming (lines l) s.reports s.jobs) same s.names.good_lines in
+    let reports = reports_once (lines n.names.input) s.reports n.reports s.jobs n.jobs good n.names.good_lines in
+    let jobs = jobs_once (lines n.names.input) s.reports n.reports s.jobs n.jobs good n.names.good_lines in
+    let some_job : s.jobs ≢ [] = (λ e. n.some_job (sym jobs ∙ e)) in
     let admits = subst (λ (r : List Report). Admits (own_of look.own random) Four look.policy r s.contacts) reports s.admits in
-    s.some_one some_target (admits_once (own_of look.own random) Four look.policy n.reports s.contacts [] admits n.no_one)
+    s.some_one some_job (admits_once (own_of look.own random) Four look.policy n.reports s.contacts [] admits n.no_one)
 
-starts_given : (look : LookWords) (random : List ℕ) (source : Shown ℕ) (targets : List Id) (table : TableState) (proofs : List Report) → Starts look random source targets table proofs → GivesStart look random source
-starts_given look random source targets table proofs s = record { reports = s.reports; targets = targets; names = s.names; contacts = s.contacts; admits = s.admits; some_one = s.some_one }
+starts_given : (look : LookWords) (random : List ℕ) (source : Shown ℕ) (jobs : List Job) (table : TableState) (proofs : List Report) → Starts look random source jobs table proofs → GivesStart look random source
+starts_given look random source jobs table proofs s = record { reports = s.reports; jobs = jobs; names = s.names; contacts = s.contacts; admits = s.admits; some_one = s.some_one }
 
 -- ---- what the link's events tell
 
 module _ (look : LookWords) (lasting : Lasting) (called : Called) (source : Shown ℕ) (link : Shown Event) where
-  ran_tells : NodeRan look lasting called source link → Grows link.before link.after (TellsFinds look lasting called)
+  ran_tells : NodeRan look lasting called source link → Grows link.before link.after (TellsJobs look lasting called)
   ran_tells r = grows_weaker link.before link.after _ _ r.looked.2.tells (λ events t. record {
-    targets = r.targets;
+    jobs = r.jobs;
     proofs = r.proofs;
     journals = journals_of r.many.outcomes;
+    follows = r.looked.2.follows;
     read = r.looked.2.read;
     end = t.tell.end;
     so_far = t.tell.so_far;
   })
 
   -- where a receive failed no datagram came that isn't told
-  fault_tells : NodeEnds look lasting called source link fault.LinkFault → Grows link.before link.after (TellsFinds look lasting called)
+  fault_tells : NodeEnds look lasting called source link fault.LinkFault → Grows link.before link.after (TellsJobs look lasting called)
   fault_tells e =
       elim e.stopped.2 [
         | inl b ↦ grows_weaker link.before link.after _ _ b.tells (λ events t. record {
-          targets = e.targets;
+          jobs = e.jobs;
           proofs = e.proofs;
           journals = b.journals;
+          follows = b.follows;
           read = b.read;
           end = t.end;
           so_far = elim t.whole [ inl is ↦ rw is t.so_far | inr other ↦ absurd (other.0 refl) ];
@@ -105,20 +106,20 @@ module _ (look : LookWords) (lasting : Lasting) (called : Called) (source : Show
         | inr n ↦ absurd (cc n.fault_is)
       ]
 
-  not_foreign : link.after ≢ None → Grows link.before link.after (TellsFinds look lasting called) → ShowsLastForeign look lasting called link → ⊥
+  not_foreign : link.after ≢ None → Grows link.before link.after (TellsJobs look lasting called) → ShowsLastForeign look lasting called link → ⊥
   not_foreign told g h =
-      added_once link.before link.after (TellsFinds look lasting called) told g (grows_weaker link.before link.after _ _ h (λ events p tells. p.1 tells))
+      added_once link.before link.after (TellsJobs look lasting called) told g (grows_weaker link.before link.after _ _ h (λ events p tells. p.1 tells))
 
 nothing_more : (es : List Event) (x : Event) → [] ≡ es ++ x ∷ [] → ⊥
 nothing_more [] x e = cc
 nothing_more (y ∷ es) x e = cc
 
-none_ends : (look : LookWords) (lasting : Lasting) (called : Called) → EndsFinds look lasting called [] → ⊥
+none_ends : (look : LookWords) (lasting : Lasting) (called : Called) → EndsJobs look lasting called [] → ⊥
 none_ends look lasting called e = nothing_more e.ends.before (Got e.ends.from e.ends.bytes e.ends.until e.ends.at) e.ends.last
 
 uncalled_not_foreign : (look : LookWords) (lasting : Lasting) (called : Called) (link : Shown Event) → link.after ≢ None → link.after ≡ link.before → ShowsLastForeign look lasting called link → ⊥
 uncalled_not_foreign look lasting called link told same h =
-    let Last : List Event → Type 0 = (λ events. EndsFinds look lasting called events) in
+    let Last : List Event → Type 0 = (λ events. EndsJobs look lasting called events) in
     let none_ : Grows link.before link.after (λ events. Last events → ⊥) =
     subst (λ (o : Option (List Event)). Grows link.before o (λ events. Last events → ⊥)) (sym same) (grows_none link.before (λ events. Last events → ⊥) (none_ends look lasting called)) in
     added_once link.before link.after Last told (grows_weaker link.before link.after _ _ h (λ events p. p.0)) none_
@@ -129,23 +130,23 @@ module _ (look : LookWords) (lasting : Lasting) (called : Called) (source : Show
   behind : (with_table : Bool) (s : Status) → NodeCause look lasting called source link s → Behind (node_aim look lasting with_table) called source link s
   behind with_table LinkFault c =
       let e = c.1 in
-      let start = starts_given look called.random source e.targets e.table e.proofs e.starts in (
-        names_good source e.starts.reports e.targets e.starts.names,
+      let start = starts_given look called.random source e.jobs e.table e.proofs e.starts in (
+        names_good source e.starts.reports e.jobs e.starts.names,
         (c.0, start, inl (fault.LinkFault, e), e),
         λ told none_. absurd (start_or_nobody look called.random source told start none_),
         λ told early last. absurd (not_foreign look lasting called source link told (fault_tells look lasting called source link e) last),
         λ told unsound. absurd unsound,
       )
   behind with_table Strays c =
-      let start = starts_given look called.random source c.targets c.table c.proofs c.starts in (
-        names_good source c.starts.reports c.targets c.starts.names,
+      let start = starts_given look called.random source c.jobs c.table c.proofs c.starts in (
+        names_good source c.starts.reports c.jobs c.starts.names,
         (c, start, inl (fault.Strays, c)),
         λ told none_. absurd (start_or_nobody look called.random source told start none_),
         λ told early last. inl refl,
         λ told unsound. absurd unsound,
       )
   behind with_table NoSeeds c = (
-    names_good source c.reports c.targets c.names,
+    names_good source c.reports c.jobs c.names,
     ((λ refused. refused), c),
     λ told none_. inl refl,
     λ told early last. absurd (uncalled_not_foreign look lasting called link told (early (inr (inr (inr (inl refl))))) last),
@@ -166,23 +167,23 @@ module _ (look : LookWords) (lasting : Lasting) (called : Called) (source : Show
   in_ends other c = absurd c
 
   -- an input that gave no start
-  pub no_start : (with_table : Bool) (s : Status) → FindsCause look called.random source s → (reading (node_aim look lasting with_table)).cause called source link s
+  pub no_start : (with_table : Bool) (s : Status) → StartsCause look called.random source s → (reading (node_aim look lasting with_table)).cause called source link s
   no_start with_table LinkFault h = absurd h
   no_start with_table Strays h = absurd h
   no_start with_table other h = h
 
 pub node_lawful : (words : NodeWords) → Lawful (node_promise words)
 node_lawful words = reading_lawful (node_aim words.look (lasting_of words) words.table) (record {
-  good = λ called source link written t. names_good source t.ran.starts.reports t.ran.targets t.ran.starts.names;
-  apart = finds_apart;
-  seedless = λ called source n. names_good source n.reports n.targets n.names;
+  good = λ called source link written t. names_good source t.ran.starts.reports t.ran.jobs t.ran.starts.names;
+  apart = jobs_apart;
+  seedless = λ called source n. names_good source n.reports n.jobs n.names;
   unrestored = λ source unsound. absurd unsound;
   sound = λ called source link written told t unsound. unsound;
-  seeded = λ called source link written told t n. start_or_nobody words.look called.random source told (starts_given words.look called.random source t.ran.targets t.ran.table t.ran.proofs t.ran.starts) n;
+  seeded = λ called source link written told t n. start_or_nobody words.look called.random source told (starts_given words.look called.random source t.ran.jobs t.ran.table t.ran.proofs t.ran.starts) n;
   few = λ called source link written told t last. not_foreign words.look (lasting_of words) called source link told (ran_tells words.look (lasting_of words) called source link t.ran) last;
   uncalled = λ called link told same last. uncalled_not_foreign words.look (lasting_of words) called link told same last;
   behind = λ called source link s c. behind words.look (lasting_of words) called source link words.table s c;
-  well = λ called source link n. (n.told, n.reads, names_good source n.start.reports n.start.targets n.start.names);
+  well = λ called source link n. (n.told, n.reads, names_good source n.start.reports n.start.jobs n.start.names);
   needed = λ called source link s n c. needed words.look (lasting_of words) called source link s n c;
   in_ends = λ called source link s c. in_ends words.look (lasting_of words) called source link s c;
   seeks = λ none_ called source n. none_ refl;
@@ -193,7 +194,7 @@ node_lawful words = reading_lawful (node_aim words.look (lasting_of words) words
 -- ---- the same over the values that the code has
 
 -- lines that said nothing gave no start
-pub unnamed : (look : LookWords) (random : List ℕ) (source : Shown ℕ) (s : Status) → NamesCause source s → FindsCause look random source s
+pub unnamed : (look : LookWords) (random : List ℕ) (source : Shown ℕ) (s : Status) → NamesCause source s → StartsCause look random source s
 unnamed look random source NoSeeds h = absurd h
 unnamed look random source other h = h
 
@@ -212,50 +213,50 @@ is_setting look proofs own tokens range pass = record { some_nodes = range.some_
 pub within_each : (look : LookWords) → IsInRange look → IsWithinLimits (record { paths = look.paths; alpha = look.alpha; timeout = look.timeout; per_address = look.per_address })
 within_each look range = record { some_path = range.some_path; few_paths = range.few_paths; some_query = range.some_query; few_queries = range.few_queries }
 
-module _ (look : LookWords) (lasting : Lasting) (called : Called) (targets : List Id) (table : TableState) (proofs : List Report) (link : Shown Event) (server : ServeSetting) (words : WordsState)
+module _ (look : LookWords) (lasting : Lasting) (called : Called) (jobs : List Job) (table : TableState) (proofs : List Report) (link : Shown Event) (server : ServeSetting) (words : WordsState)
     (server_are : server ≡ server_of look called.random proofs) (words_are : words ≡ drawn_of called.random) (after : TableState) (left : WordsState) where
-  pub has_looked : (many : Many) → ManyLooked called.accepts called.tags server (each_of look) targets lasting table after words left link.before link.after many → HasLookedTo after look lasting called targets table proofs link many
+  pub has_looked : (many : Many) → ManyLooked called.accepts called.tags server (each_of look) jobs lasting table after words left link.before link.after many → HasLookedTo after look lasting called jobs table proofs link many
   has_looked many h = (
     left,
-    subst (λ (w : WordsState). ManyLooked called.accepts called.tags (server_of look called.random proofs) (each_of look) targets lasting table after w left link.before link.after many) words_are
-        (subst (λ (s : ServeSetting). ManyLooked called.accepts called.tags s (each_of look) targets lasting table after words left link.before link.after many) server_are h),
+    subst (λ (w : WordsState). ManyLooked called.accepts called.tags (server_of look called.random proofs) (each_of look) jobs lasting table after w left link.before link.after many) words_are
+        (subst (λ (s : ServeSetting). ManyLooked called.accepts called.tags s (each_of look) jobs lasting table after words left link.before link.after many) server_are h),
   )
 
-  pub has_stopped : (by : ManyFault) → ManyStopped called.accepts called.tags server (each_of look) targets lasting table after words left link.before link.after by → HasStopped look lasting called targets table proofs link by
+  pub has_stopped : (by : ManyFault) → ManyStopped called.accepts called.tags server (each_of look) jobs lasting table after words left link.before link.after by → HasStopped look lasting called jobs table proofs link by
   has_stopped by h = (
     after,
     left,
-    subst (λ (w : WordsState). ManyStopped called.accepts called.tags (server_of look called.random proofs) (each_of look) targets lasting table after w left link.before link.after by) words_are
-        (subst (λ (s : ServeSetting). ManyStopped called.accepts called.tags s (each_of look) targets lasting table after words left link.before link.after by) server_are h),
+    subst (λ (w : WordsState). ManyStopped called.accepts called.tags (server_of look called.random proofs) (each_of look) jobs lasting table after w left link.before link.after by) words_are
+        (subst (λ (s : ServeSetting). ManyStopped called.accepts called.tags s (each_of look) jobs lasting table after words left link.before link.after by) server_are h),
   )
 
 -- what it begins with, as the code has it
-pub starts_with : (look : LookWords) (random : List ℕ) (source : Shown ℕ) (own : Id) (reports read : List Report) (targets : List Id) (contacts cs ds : List Contact) (proofs : List Report) (table : TableState) → own ≡ own_of look.own random → Names source reports targets → read ≡ reports
-    → Admits own Four look.policy read contacts → Keeps own Four look.policy read proofs → cs ≡ contacts → ds ≡ contacts → TableTold (map seen_call cs) (limited_table own look.k look.bits look.per_address) table → (targets ≢ [] → ds ≢ []) → Starts look random source targets table proofs
-starts_with look random source own reports read targets contacts cs ds proofs table mine names is admits keeps same too told some_ = record {
+pub starts_with : (look : LookWords) (random : List ℕ) (source : Shown ℕ) (own : Id) (reports read : List Report) (jobs : List Job) (contacts cs ds : List Contact) (proofs : List Report) (table : TableState) → own ≡ own_of look.own random → Names source reports jobs → read ≡ reports
+    → Admits own Four look.policy read contacts → Keeps own Four look.policy read proofs → cs ≡ contacts → ds ≡ contacts → TableTold (map seen_call cs) (limited_table own look.k look.bits look.per_address) table → (jobs ≢ [] → ds ≢ []) → Starts look random source jobs table proofs
+starts_with look random source own reports read jobs contacts cs ds proofs table mine names is admits keeps same too told some_ = record {
   reports = reports;
   names = names;
   contacts = contacts;
   admits = subst (λ (id : Id). Admits id Four look.policy reports contacts) mine (subst (λ (l : List Report). Admits own Four look.policy l contacts) is admits);
-  some_one = λ target none_. some_ target (too ∙ none_);
+  some_one = λ job none_. some_ job (too ∙ none_);
   told = subst (λ (id : Id). TableTold (map seen_call contacts) (limited_table id look.k look.bits look.per_address) table) mine (subst (λ (l : List Contact). TableTold (map seen_call l) (limited_table own look.k look.bits look.per_address) table) same told);
   keeps = subst (λ (id : Id). Keeps id Four look.policy reports proofs) mine (subst (λ (l : List Report). Keeps own Four look.policy l proofs) is keeps);
 }
 
-pub gives_nobody : (look : LookWords) (random : List ℕ) (source : Shown ℕ) (own : Id) (reports read : List Report) (targets ts : List Id) (contacts cs : List Contact) → own ≡ own_of look.own random → Names source reports targets → read ≡ reports → ts ≡ targets → cs ≡ contacts
-    → Admits own Four look.policy read contacts → ts ≢ [] → cs ≡ [] → GivesNobody look random source
-gives_nobody look random source own reports read targets ts contacts cs mine names is same too admits target none_ =
+pub gives_nobody : (look : LookWords) (random : List ℕ) (source : Shown ℕ) (own : Id) (reports read : List Report) (jobs js : List Job) (contacts cs : List Contact) → own ≡ own_of look.own random → Names source reports jobs → read ≡ reports → js ≡ jobs → cs ≡ contacts
+    → Admits own Four look.policy read contacts → js ≢ [] → cs ≡ [] → GivesNobody look random source
+gives_nobody look random source own reports read jobs js contacts cs mine names is same too admits job none_ =
     let empty : contacts ≡ [] = sym too ∙ none_ in
     let all = subst (λ (l : List Report). Admits own Four look.policy l contacts) is admits in
     record {
       reports = reports;
-      targets = targets;
+      jobs = jobs;
       names = names;
-      some_target = λ e. target (same ∙ e);
+      some_job = λ e. job (same ∙ e);
       no_one = subst (λ (id : Id). Admits id Four look.policy reports []) mine (subst (Admits own Four look.policy reports) empty all);
     }
 
-module _ (look : LookWords) (random : List ℕ) (source : Shown ℕ) (targets : List Id) (table : TableState) (proofs : List Report) (s : Starts look random source targets table proofs) where
+module _ (look : LookWords) (random : List ℕ) (source : Shown ℕ) (jobs : List Job) (table : TableState) (proofs : List Report) (s : Starts look random source jobs table proofs) where
   pub starts_usable : (own : Id) → own ≡ own_of look.own random → All (IsUsable own) (contacts_of table)
   starts_usable own mine =
       subst (λ (id : Id). All (IsUsable id) (contacts_of table)) (sym mine)
@@ -264,8 +265,11 @@ module _ (look : LookWords) (random : List ℕ) (source : Shown ℕ) (targets : 
   pub starts_pass : All (Passes look.policy) proofs
   starts_pass = kept_pass (own_of look.own random) Four look.policy s.reports proofs s.keeps
 
-  pub starts_few : (ts : List Id) → ts ≡ targets → length ts ≤ max_lookups
-  starts_few ts same = subst (λ (l : List Id). length l ≤ max_lookups) (sym same) s.names.good_lines.few
+  pub starts_few : (js : List Job) → js ≡ jobs → length js ≤ max_lookups
+  starts_few js same = subst (λ (l : List Job). length l ≤ max_lookups) (sym same) s.names.good_lines.few
+
+  pub starts_carried : (js : List Job) → js ≡ jobs → AllByRecursion MaySayOf js
+  starts_carried js same = subst (AllByRecursion MaySayOf) (sym same) (jobs_carried (lines s.names.input) s.reports jobs s.names.good_lines)
 
 -- ---- its text
 
@@ -276,28 +280,12 @@ zip_long R (x ∷ xs) [] h = absurd h
 zip_long {A} {B} R (x ∷ xs) (y ∷ ys) h = let rest = zip_long R xs ys h.1 in omega (arith, rest)
 
 module _ (server : ServeSetting) (setting : ManySetting) (table : TableState) where
-  printed_is : (s : Setting) (one : One) → one.found ≡ result_of s one.journal → one.counts.asked ≡ length (asked one.journal) → one.counts.failed ≡ length (failed one.journal) → one.counts.turned ≡ length (turned one.journal)
-      → printed one.found one.counts.asked one.counts.failed one.counts.turned ≡ printed_of s one.journal
-  printed_is s one a b c d =
-      ap (λ l. printed l one.counts.asked one.counts.failed one.counts.turned) a
-      ∙ ap (λ n. printed (result_of s one.journal) n one.counts.failed one.counts.turned) b
-      ∙ ap (λ n. printed (result_of s one.journal) (length (asked one.journal)) n one.counts.turned) c
-      ∙ ap (λ n. printed (result_of s one.journal) (length (asked one.journal)) (length (failed one.journal)) n) d
-
-  texts_are : (targets : List Id) (ones : List One) → AllZip (IsFound server setting table) targets ones → printed_each targets ones ≡ journal_texts server setting targets (journals_of ones)
-  texts_are [] ones h = refl
-  texts_are (t ∷ ts) [] h = refl
-  texts_are (t ∷ ts) (o ∷ os) h =
-      let one = printed_is (setting_for server setting t) o h.0.found h.0.counted.asked h.0.counted.failed h.0.counted.turned in
-      ap (λ (l : List ℕ). (line_of (find_text t) ++ l) ++ printed_each ts os) one
-      ∙ ap (λ (l : List ℕ). (line_of (find_text t) ++ printed_of (setting_for server setting t) o.journal) ++ l) (texts_are ts os h.1)
-
-  all_run_out : 1 ≤ setting.paths → (targets : List Id) (ones : List One) → AllZip (IsFound server setting table) targets ones → AllZip (HasRunOutFor server setting table) targets (journals_of ones)
+  all_run_out : 1 ≤ setting.paths → (jobs : List Job) (ones : List One) → AllZip (IsFound server setting table) jobs ones → AllZip (HasRunOutFor server setting table) jobs (journals_of ones)
   all_run_out some_path [] [] h = tt
   all_run_out some_path [] (o ∷ os) h = absurd h
-  all_run_out some_path (t ∷ ts) [] h = absurd h
-  all_run_out some_path (t ∷ ts) (o ∷ os) h =
-      let set = setting_for server setting t in
+  all_run_out some_path (j ∷ js) [] h = absurd h
+  all_run_out some_path (j ∷ js) (o ∷ os) h =
+      let set = setting_for server setting j in
       let f = h.0 in (
         record {
           is_journal = f.journal;
@@ -308,32 +296,31 @@ module _ (server : ServeSetting) (setting : ManySetting) (table : TableState) wh
           few_of_a_host = has_few set o.journal f.journal.legal;
           have_answered = λ c has. found_answered set o.journal c some_path f.journal.legal f.run_out has;
         },
-        all_run_out some_path ts os h.1,
+        all_run_out some_path js os h.1,
       )
 
-abbrev pub ran_of : (look : LookWords) (lasting : Lasting) (called : Called) (source : Shown ℕ) (link : Shown Event) (targets ts : List Id) (table : TableState) (proofs : List Report) (many : Many) → Starts look called.random source targets table proofs
-    → (after : TableState) → HasLookedTo after look lasting called ts table proofs link many → CountsUnsent (journals_of many.outcomes) link.sends link.sends' → ts ≡ targets → NodeRan look lasting called source link
-ran_of look lasting called source link targets ts table proofs many s after h refused same = record {
-  targets = targets;
+abbrev pub ran_of : (look : LookWords) (lasting : Lasting) (called : Called) (source : Shown ℕ) (link : Shown Event) (jobs js : List Job) (table : TableState) (proofs : List Report) (many : Many) → Starts look called.random source jobs table proofs
+    → (after : TableState) → HasLookedTo after look lasting called js table proofs link many → CountsUnsent (journals_of many.outcomes) link.sends link.sends' → js ≡ jobs → NodeRan look lasting called source link
+ran_of look lasting called source link jobs js table proofs many s after h refused same = record {
+  jobs = jobs;
   table = table;
   proofs = proofs;
   starts = s;
   many = many;
-  looked = (after, h.0, subst (λ (l : List Id). LooksFrom look lasting called l table proofs link after h.0 many) same h.1);
+  looked = (after, h.0, subst (λ (l : List Job). LooksFrom look lasting called l table proofs link after h.0 many) same h.1);
   refused = refused;
 }
 
-pub outcomes_long : (look : LookWords) (lasting : Lasting) (called : Called) (targets ts : List Id) (table : TableState) (proofs : List Report) (link : Shown Event) (many : Many) (after : TableState) → HasLookedTo after look lasting called targets table proofs link many → ts ≡ targets → length ts ≡ length many.outcomes
-outcomes_long look lasting called targets ts table proofs link many after h same = ap length same ∙ zip_long _ targets many.outcomes h.1.each
+pub outcomes_long : (look : LookWords) (lasting : Lasting) (called : Called) (jobs js : List Job) (table : TableState) (proofs : List Report) (link : Shown Event) (many : Many) (after : TableState) → HasLookedTo after look lasting called jobs table proofs link many → js ≡ jobs → length js ≡ length many.outcomes
+outcomes_long look lasting called jobs js table proofs link many after h same = ap length same ∙ zip_long _ jobs many.outcomes h.1.each
 
-pub node_text : (look : LookWords) (lasting : Lasting) (with_table : Bool) (called : Called) (source : Shown ℕ) (link : Shown Event) (r : NodeRan look lasting called source link) (ts : List Id) (text : List ℕ) → IsInRange look → ts ≡ r.targets → WithTable with_table r.looked.0 (printed_many ts r.many) text → NodeText look lasting with_table called source link text
-node_text look lasting with_table called source link r ts text range same is = record {
+pub node_text : (look : LookWords) (lasting : Lasting) (with_table : Bool) (called : Called) (source : Shown ℕ) (link : Shown Event) (r : NodeRan look lasting called source link) (js : List Job) (text : List ℕ) → IsInRange look → js ≡ r.jobs → IsPrinted with_table r.looked.0 js r.many text → NodeText look lasting with_table called source link text
+node_text look lasting with_table called source link r js text range same is = record {
   ran = r;
   journals = journals_of r.many.outcomes;
   journals_are = refl;
-  each = all_run_out (server_of look called.random r.proofs) (each_of look) r.table range.some_path r.targets r.many.outcomes r.looked.2.each;
-  text_is = subst (λ (front : List ℕ). WithTable with_table r.looked.0 front text)
-      (ap (λ (l : List Id). printed_many l r.many) same
-      ∙ ap (λ (l : List ℕ). l ++ printed_served r.many.received r.many.replied) (texts_are (server_of look called.random r.proofs) (each_of look) r.table r.targets r.many.outcomes r.looked.2.each))
-      is;
+  each = all_run_out (server_of look called.random r.proofs) (each_of look) r.table range.some_path r.jobs r.many.outcomes r.looked.2.each;
+  texts = is.0;
+  texts_are = all_by_journal (server_of look called.random r.proofs) (each_of look) r.table r.jobs r.many.outcomes is.0 r.looked.2.each (subst (λ (l : List Job). AreTextsOf l r.many.outcomes is.0) same is.1);
+  text_is = is.2;
 }

@@ -1,4 +1,5 @@
+pub mod JobLines
+pub mod JobTexts
+pub mod Printed
 pub mod Served
 pub mod Several
-pub mod FindLines
-pub mod Printed

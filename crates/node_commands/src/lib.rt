@@ -2,9 +2,11 @@
 //! writes nothing yet.
 #![tactic(auto)]
 
-pub mod finds;
+mod job_line;
+mod job_text;
+pub mod jobs;
 pub mod node;
 pub mod printed;
 pub mod serve;
 
-pub use finds::{Finds, InputLine, one_bad_find, one_naming};
+pub use jobs::{InputLine, NodeInput, one_bad_job, one_naming};

@@ -1,32 +1,34 @@
-//! The command `node`: looks for several identifiers at once, while it answers queries, and makes the text of what it found.
+//! The command `node`: does several jobs at once, while it answers queries, and makes the text of what it found.
 ghost use Rattle.std.specs.Prelude.{◌≡◌, ◌≢◌, ◌⊎◌, ◌↔◌, ◌++◌, ◌≤◌, [], length, IfOk, IfErr, OnOk, IsErrOf, IsTrue};
-ghost use Rattle.std.specs.List.{All};
+ghost use Rattle.std.specs.List.{All, AllByRecursion};
 ghost use Rattle.kad_base.specs.Failing.{FailsLast};
 ghost use Rattle.kad_base.specs.Contacts.{IsUsable};
 ghost use Rattle.contact_table.specs.TableStep.{contacts_of};
 ghost use Rattle.kad_base.specs.Puzzles.{Passes};
 ghost use Rattle.kad_base.specs.Limits.{max_lookups};
+ghost use Rattle.look_many.specs.Job.{MaySayOf};
 ghost use Rattle.look_many.specs.ManyLooked.{CountsUnsent, journals_of};
 ghost use Rattle.command_base.specs.Called.{called_with};
-ghost use Rattle.node_commands.specs.Several.{FindsCause, HasLookedTo, HasStopped, NamesCause, Names, NodeBegun, NodeText, Starts, lasting_of, node_promise, printed_each, printed_many, printed_one};
+ghost use Rattle.node_commands.specs.Several.{HasLookedTo, HasStopped, IsPrinted, Names, NamesCause, NodeBegun, NodeText, Starts, StartsCause, lasting_of, node_promise};
 ghost use Rattle.node_commands.specs.Printed.{WithTable};
 ghost use Rattle.command_base.specs.Endings.{EndsUnasked, number_of};
 ghost use Rattle.command_base.specs.Input.{ReadsAtMost};
 ghost use Rattle.command_base.specs.Shown.{shown, shown_link, HasFailed};
 ghost use Rattle.command_base.specs.Started.{own_of, IsInRange};
 
-use crate::finds::{Finds, read_finds};
-use crate::printed::{add_table, find_line, served_line};
+use crate::job_text::print_each;
+use crate::jobs::{NodeInput, read_input};
+use crate::printed::{add_table, served_line};
 use command_base::bootstrap::{FIRST_TX, own_id, table_of};
 use command_base::input::{admitted, kept, read_whole};
-use command_base::printed::{add_line, print};
+use command_base::printed::add_line;
 use command_base::{Call, Status};
 use contact_table::Table;
 use id_puzzles::Words;
-use kad_base::{Bytes, Check, Contact, Family, Id, Link, List, NoMemory, Reports, Source};
+use kad_base::{Bytes, Check, Contact, Family, Id, Link, NoMemory, Reports, Source};
 use kad_text::lines::LinesFault;
 use kad_words::{LookWords, NodeWords};
-use look_many::{Many, ManyFault, ManySetting, One, look_many};
+use look_many::{Job, Jobs, Many, ManyFault, ManySetting, look_many};
 use node_serve::{Lasting, ServeSetting};
 use node_tokens::Tokens;
 use path_worker::PacedCheck;
@@ -40,7 +42,7 @@ use std::thread::Threads;
 struct Start {
     table: Table,
     proofs: Reports,
-    targets: List<Id>,
+    jobs: Jobs,
 }
 
 /// What a node found, and its routing table then.
@@ -51,8 +53,8 @@ struct Looked {
 }
 
 /// Reads the lines of the input.
-fn read_names<S: Source>(alloc: Global, source: &mut S) -> Result<Finds, Status>
-    ensures ok { IfOk result (λ finds. Names (shown S.left S.faults source.old source.new) finds.reports finds.targets) }
+fn read_names<S: Source>(alloc: Global, source: &mut S) -> Result<NodeInput, Status>
+    ensures ok { IfOk result (λ input. Names (shown S.left S.faults source.old source.new) input.reports input.jobs) }
     ensures cause { IfErr result (NamesCause (shown S.left S.faults source.old source.new)) }
     ensures at_most { ReadsAtMost (S.left source.old) (S.left source.new) }
     ensures reads_well { ¬ IsErrOf result Status.SourceFault
@@ -60,19 +62,19 @@ fn read_names<S: Source>(alloc: Global, source: &mut S) -> Result<Finds, Status>
     ensures reads_last { IsErrOf result Status.SourceFault
         → FailsLast S.left S.faults source.old source.new }
 {
-    let input = read_whole(alloc, source)?;
-    match read_finds(alloc, input.as_slice()) {
-        Ok(finds) => Ok(finds),
+    let bytes = read_whole(alloc, source)?;
+    match read_input(alloc, bytes.as_slice()) {
+        Ok(input) => Ok(input),
         Err(LinesFault::Bad { line }) => Err(Status::BadLine { line }),
         Err(LinesFault::NoMemory) => Err(Status::NoMemory),
     }
 }
 
 /// Whether there is something to look for, and nobody to begin with.
-fn is_nobody(targets: &[Id], contacts: &[Contact]) -> bool
-    ensures { IsTrue result ↔ (targets.now ≢ []) × (contacts.now ≡ []) }
+fn is_nobody(jobs: &[Job], contacts: &[Contact]) -> bool
+    ensures { IsTrue result ↔ (jobs.now ≢ []) × (contacts.now ≡ []) }
 {
-    !targets.is_empty() && contacts.is_empty()
+    !jobs.is_empty() && contacts.is_empty()
 }
 
 /// Reads the input, tells a new routing table, with the limit of one host that the words say, of its contacts of IPv4, and keeps
@@ -87,8 +89,8 @@ fn read_start<S: Source, C: Check, G: Seal + SealCheck>(
     requires ranges { IsInRange look.now }
     requires own { own ≡ own_of look.now.own call.now.random }
     ensures ok { IfOk result (λ start. Starts look.now call.now.random
-        (shown S.left S.faults source.old source.new) start.targets start.table start.proofs) }
-    ensures cause { IfErr result (FindsCause look.now call.now.random
+        (shown S.left S.faults source.old source.new) start.jobs start.table start.proofs) }
+    ensures cause { IfErr result (StartsCause look.now call.now.random
         (shown S.left S.faults source.old source.new)) }
     ensures at_most { ReadsAtMost (S.left source.old) (S.left source.new) }
     ensures reads_well { ¬ IsErrOf result Status.SourceFault
@@ -96,11 +98,11 @@ fn read_start<S: Source, C: Check, G: Seal + SealCheck>(
     ensures reads_last { IsErrOf result Status.SourceFault
         → FailsLast S.left S.faults source.old source.new }
 {
-    let finds = read_names(alloc, source)?;
-    let Finds { reports, targets } = finds;
+    let input = read_names(alloc, source)?;
+    let NodeInput { reports, jobs } = input;
     let read = reports.as_slice();
     let contacts = admitted(alloc, &own, Family::Four, look.policy, call.check, read)?;
-    if is_nobody(targets.as_slice(), contacts.as_slice()) {
+    if is_nobody(jobs.as_slice(), contacts.as_slice()) {
         return Err(Status::NoSeeds);
     }
     let proofs = kept(alloc, &own, Family::Four, look.policy, call.check, read)?;
@@ -115,11 +117,11 @@ fn read_start<S: Source, C: Check, G: Seal + SealCheck>(
     Ok(Start {
         table,
         proofs,
-        targets,
+        jobs,
     })
 }
 
-/// Looks for the targets, while it answers queries, from this table on.
+/// Does the jobs, while it answers queries, from this table on.
 fn look_all<R: Threads + Wait + Sync, L: Link, C: PacedCheck + Sync, G: Seal + SealCheck>(
     rt: &R,
     alloc: Global,
@@ -128,22 +130,23 @@ fn look_all<R: Threads + Wait + Sync, L: Link, C: PacedCheck + Sync, G: Seal + S
     own: Id,
     table: Table,
     proofs: Reports,
-    targets: &[Id],
+    jobs: &[Job],
     link: &mut L,
     call: &Call<'_, C, G>,
 ) -> Result<Looked, ManyFault>
     requires ranges { IsInRange look.now }
     requires own { own ≡ own_of look.now.own call.now.random }
-    requires few { length targets.now ≤ max_lookups }
+    requires few { length jobs.now ≤ max_lookups }
+    requires carried { AllByRecursion MaySayOf jobs.now }
     requires usable { All (IsUsable own) (contacts_of table) }
     requires proofs { All (Passes look.now.policy) proofs }
     ensures ok { IfOk result (λ looked. HasLookedTo looked.table look.now lasting
         (called_with call.now.random (C.slow call.now.check.now) (G.accepted call.now.seal.now)
-        (G.tag_of call.now.seal.now)) targets.now table proofs
+        (G.tag_of call.now.seal.now)) jobs.now table proofs
         (shown_link L.told L.recv_faults L.send_faults link.old link.new) looked.many) }
     ensures stopped { IfErr result (HasStopped look.now lasting
         (called_with call.now.random (C.slow call.now.check.now) (G.accepted call.now.seal.now)
-        (G.tag_of call.now.seal.now)) targets.now table proofs
+        (G.tag_of call.now.seal.now)) jobs.now table proofs
         (shown_link L.told L.recv_faults L.send_faults link.old link.new)) }
     ensures refused { IfOk result (λ looked. CountsUnsent (journals_of looked.many.outcomes)
         (L.send_faults link.old) (L.send_faults link.new)) }
@@ -177,7 +180,7 @@ fn look_all<R: Threads + Wait + Sync, L: Link, C: PacedCheck + Sync, G: Seal + S
         &mut words,
         table,
         &server,
-        targets,
+        jobs,
         &setting,
         lasting,
         call.check,
@@ -190,49 +193,18 @@ fn look_all<R: Threads + Wait + Sync, L: Link, C: PacedCheck + Sync, G: Seal + S
     }
 }
 
-/// Adds what was found of a target.
-fn add_found(alloc: Global, output: &mut Bytes, target: &Id, one: &One) -> Result<(), NoMemory>
-    ensures { OnOk result (output.new ≡ output.old ++ printed_one target.now one.now) }
-{
-    let Ok(line) = find_line(alloc, target) else {
-        return Err(NoMemory);
-    };
-    add_line(output, line.as_str())?;
-    let counts = one.counts;
-    let text = print(
-        alloc,
-        one.found.as_slice(),
-        counts.asked,
-        counts.failed,
-        counts.turned,
-    )?;
-    output.extend(text.as_slice())
-}
-
-/// What was found of each target.
-fn print_each(alloc: Global, targets: &[Id], ones: &[One]) -> Result<Bytes, NoMemory>
-    requires { length targets.now ≡ length ones.now }
-    ensures { IfOk result (λ text. text ≡ printed_each targets.now ones.now) }
-{
-    let mut output = List::new(alloc);
-    for i in 0..targets.len() {
-        add_found(alloc, &mut output, &targets[i], &ones[i])?;
-    }
-    Ok(output)
-}
-
 /// The output of a node, and the saved text of its table behind it where that is wanted.
 fn text_of(
     alloc: Global,
-    targets: &[Id],
+    jobs: &[Job],
     looked: &Looked,
     with_table: bool,
 ) -> Result<Bytes, NoMemory>
-    requires { length targets.now ≡ length looked.now.many.outcomes }
-    ensures { IfOk result (WithTable with_table looked.now.table (printed_many targets.now looked.now.many)) }
+    requires { length jobs.now ≡ length looked.now.many.outcomes }
+    ensures { IfOk result (λ text. IsPrinted with_table looked.now.table jobs.now looked.now.many text) }
 {
     let many = &looked.many;
-    let mut output = print_each(alloc, targets, many.outcomes.as_slice())?;
+    let mut output = print_each(alloc, jobs, many.outcomes.as_slice())?;
     let Ok(line) = served_line(alloc, many.received, many.replied) else {
         return Err(NoMemory);
     };
@@ -241,7 +213,7 @@ fn text_of(
     Ok(output)
 }
 
-/// Looks for what the input names, and makes the text of what was found, or says why there is none. Nothing is written yet.
+/// Does the jobs that the input names, and makes the text of what was found, or says why there is none. Nothing is written yet.
 pub fn node<
     R: Threads + Wait + Sync,
     S: Source,
@@ -290,7 +262,7 @@ pub fn node<
     let Start {
         table,
         proofs,
-        targets,
+        jobs,
     } = start;
     let lasting = Lasting {
         receives: words.receives,
@@ -304,7 +276,7 @@ pub fn node<
         own,
         table,
         proofs,
-        targets.as_slice(),
+        jobs.as_slice(),
         link,
         call,
     );
@@ -314,5 +286,5 @@ pub fn node<
         Err(ManyFault::Strays) => return Err(Status::Strays),
         Err(ManyFault::NoMemory) => return Err(Status::NoMemory),
     };
-    Ok(text_of(alloc, targets.as_slice(), &looked, words.table)?)
+    Ok(text_of(alloc, jobs.as_slice(), &looked, words.table)?)
 }
