@@ -5,6 +5,7 @@ mod grouped;
 mod hostile;
 mod ipv6;
 mod items;
+mod jobs;
 mod lasting;
 mod nodes;
 mod one_address;

@@ -8,7 +8,7 @@ use std::test::Fail;
 use trial_kit::LINE_1;
 
 /// The node of ones, whose lookups have one path each.
-const NODE: &[&str] = &[
+pub const NODE: &[&str] = &[
     "node",
     "--own",
     "ffffffffffffffffffffffffffffffffffffffff",
@@ -95,7 +95,7 @@ const QUERY_2: &[u8] =
     b"d1:ad2:id20:\xff\xff\xff\xff\xff\xff\xff\xff\xff\xff\xff\xff\xff\xff\xff\xff\xff\xff\xff\xff6:target20:\0\0\0\0\0\0\0\0\0\0\0\0\0\0\0\0\0\0\0\x02e1:q9:find_node1:t4:\xa86\xef\xcc1:y1:qe";
 
 /// Contact 1 answers the second query, and names nobody.
-const SECOND: &[u8] =
+pub const SECOND: &[u8] =
     b"d1:rd2:id20:\0\0\0\0\0\0\0\0\0\0\0\0\0\0\0\0\0\0\0\x01e1:t4:\xa86\xef\xcc1:y1:re";
 
 /// Contact 1 answers the first query with contact 3, and the second with contact 4.
