@@ -410,8 +410,10 @@ class Looker:
             return any(line.split()[1] == words for line in table)
 
     def begin(self, contacts, targets):
-        lines = "".join(["find %s\n" % target.hex() for target in targets])
-        self.process.child.stdin.write((contacts + lines).encode())
+        self.begin_with(contacts + "".join(["find %s\n" % target.hex() for target in targets]))
+
+    def begin_with(self, text):
+        self.process.child.stdin.write(text.encode())
         self.process.child.stdin.close()
         self.process.child.stdin = None
 
