@@ -1,10 +1,13 @@
 //! Whole lookups over a scripted link.
 mod crowd;
 mod drawn;
+mod following;
 mod grouped;
 mod hostile;
 mod ipv6;
 mod items;
+mod job_answers;
+mod job_lines;
 mod jobs;
 mod lasting;
 mod nodes;
