@@ -1,25 +1,80 @@
--- All passes are put back.
-use Rattle.std.proofs.Common.{◌≡◌, ℕ, suc, ◌+◌, List, [], ◌∷◌, ◌++◌, length, refl, sym, ap, subst, ◌∙◌, arith}
+-- The lookups are seated, and all passes are put back.
+use Rattle.std.proofs.Common.{◌≡◌, ℕ, suc, ◌+◌, List, [], ◌∷◌, ◌++◌, length, Option, refl, sym, ap, subst, ◌∙◌, arith}
 use Rattle.std.specs.Prelude.{map, reverse, take, drop}
 use Rattle.std.specs.List.{AllByRecursion, AllZip, range_with_len}
 use Rattle.std.proofs.lemmas.List.{length-map, length-reverse, map-append, reverse-append}
 use Rattle.std.proofs.lemmas.List.Elements.{All-nil, All-cons, All-same, All-from_recursion}
 use Rattle.std.proofs.Math.Seq.{take-append_seam}
+use Rattle.kad_base.specs.declared.types.Event.{Event}
+use Rattle.kad_base.specs.declared.types.Event.TheVariants.{Now}
+use Rattle.kad_base.specs.Outside.{Grows}
+use Rattle.id_puzzles.specs.Drawn.{WordsState}
 use Rattle.turn_book.specs.Turns.{TurnState, AreAll, fresh}
 use Rattle.turn_book.proofs.Ended.{all_in_row}
 use Rattle.contact_table.specs.TableState.{TableState}
-use Rattle.peer_store.specs.Peers.{PeersState}
-use Rattle.item_store.specs.Items.{ItemsState}
+use Rattle.node_serve.specs.declared.setting.ServeSetting.{ServeSetting}
+use Rattle.node_serve.specs.Lasting.{end_of}
 use Rattle.serve_crew.specs.Hands.{Hands, SameHands, TablePass, PeersPass, ItemsPass, hands}
-use Rattle.look_many.specs.declared.seeker.Seeker.{Seeker}
+use Rattle.lookup_crowd.specs.declared.host.Desk.{Desk}
+use Rattle.lookup_crowd.specs.declared.seeker.Seeker.{Seeker}
+use Rattle.lookup_crowd.specs.inner.Crowd.{stand}
+use Rattle.lookup_crowd.specs.inner.ManySteps.{IsOfDesk, IsSeated, IsRunOut}
+use Rattle.lookup_crowd.specs.inner.Going.{SameSeats}
+use Rattle.lookup_crowd.proofs.Gone.{seated_still}
+use Rattle.lookup_crowd.proofs.Zips.{zip_length, zip_weaker}
 use Rattle.look_many.specs.declared.finish.Done.{Done}
+use Rattle.look_many.specs.declared.found.ManySetting.{ManySetting}
 use Rattle.look_many.specs.declared.found.One.{One}
-use Rattle.look_many.specs.inner.ManySteps.{IsSeated, IsRunOut}
-use Rattle.look_many.specs.inner.Going.{SameSeats}
-use Rattle.look_many.specs.inner.Seats.{IsOverBook, IsDone, IsHanded, IsOutcome, done_of, RolesFrom, rows, AreBack}
+use Rattle.look_many.specs.declared.job.Job.{Job}
+use Rattle.look_many.specs.inner.Seats.{IsSeekerFor, IsOverBook, IsDone, IsHanded, IsOutcome, done_of, RolesFrom, Rows, rows, AreBack, IsAlone}
+use Rattle.look_many.specs.inner.Ends.{Task, Starts}
 use Rattle.look_many.proofs.Starting.{seated_at, roles_at}
-use Rattle.look_many.proofs.Gone.{seated_still}
-use Rattle.look_many.proofs.Zips.{zip_weaker}
+
+-- ---- where they begin
+
+-- the lookups that were seated, seen through a slice of their list
+pub record Seated (server : ServeSetting) (setting : ManySetting) (T : TurnState TableState) (jobs : List Job) (vs : List Seeker) : Type 0 where
+  pub seekers : AllZip (IsSeekerFor server setting T.start) jobs vs
+  pub count : length vs ≡ length jobs
+  pub passes : map (λ (k : Seeker). k.pass) vs ≡ map (fresh T.id) (range_with_len 1 (length jobs))
+  pub own : AllByRecursion (IsSeated T) vs
+  pub roles : RolesFrom 1 vs
+
+pub seated_through : (server : ServeSetting) (setting : ManySetting) (T : TurnState TableState) (jobs : List Job) (ks vs : List Seeker) → vs ≡ ks → AllZip (IsSeekerFor server setting T.start) jobs ks → map (λ (k : Seeker). k.pass) ks ≡ map (fresh T.id) (range_with_len 1 (length jobs)) → Seated server setting T jobs vs
+seated_through server setting T jobs ks vs is seekers passes =
+    let seen : AllZip (IsSeekerFor server setting T.start) jobs vs = subst (AllZip (IsSeekerFor server setting T.start) jobs) (sym is) seekers in
+    let count = zip_length (IsSeekerFor server setting T.start) jobs vs seen in
+    let own : map (λ (k : Seeker). k.pass) vs ≡ map (fresh T.id) (range_with_len 1 (length jobs)) = ap (map (λ (k : Seeker). k.pass)) is ∙ passes in
+    let all : map (λ (k : Seeker). k.pass) vs ≡ map (fresh T.id) (range_with_len 1 (length vs)) = own ∙ ap (λ m. map (fresh T.id) (range_with_len 1 m)) (sym count) in
+    record { seekers = seen; count = count; passes = own; own = seated_at T 1 vs all; roles = roles_at T 1 vs all }
+
+pub starts_at : (k : Task) (r : Rows) (words : WordsState) (told told' : Option (List Event)) (vs : List Seeker) (host : Hands) (moment : ℕ) (end : Option ℕ) → Seated k.server k.setting r.tables k.jobs vs → host ≡ hands (fresh r.tables.id 0) (fresh r.stores.id 0) (fresh r.shelves.id 0) → end ≡ end_of moment k.lasting.minutes → Grows told told' (λ events. events ≡ Now moment ∷ [])
+    → Starts k r words told (stand vs (record { moment = moment; receives = 0; foreign = 0; left = k.lasting.receives; end = end; received = 0; replied = 0; unsaid = 0 }) words host told')
+starts_at k r words told told' vs host moment end s is_host is_end now_told = record {
+  seekers = s.seekers;
+  passes = s.passes;
+  host = is_host;
+  progress = ap (λ e. record { moment = moment; receives = 0; foreign = 0; left = k.lasting.receives; end = e; received = 0; replied = 0; unsaid = 0 }) is_end;
+  words_are = refl;
+  now_told = now_told;
+}
+
+-- the node that serves calls in the role of the driver, and goes on to
+pub of_desk : (desk : Desk) (host host' : Hands) → host ≡ hands (fresh desk.table.now.id 0) (fresh desk.peers.now.id 0) (fresh desk.items.now.id 0) → SameHands host host' → IsOfDesk desk host'
+of_desk desk host host' is same = record {
+  driver = same.table.role ∙ ap (λ (h : Hands). h.table.role) is;
+  table = same.table.turn ∙ ap (λ (h : Hands). h.table.turn) is;
+  peers = same.peers.turn ∙ ap (λ (h : Hands). h.peers.turn) is;
+  items = same.items.turn ∙ ap (λ (h : Hands). h.items.turn) is;
+}
+
+pub alone : (desk : Desk) (host host' : Hands) → host ≡ hands (fresh desk.table.now.id 0) (fresh desk.peers.now.id 0) (fresh desk.items.now.id 0) → SameHands host host' → IsAlone host'
+alone desk host host' is same = record {
+  peers = same.peers.role ∙ ap (λ (h : Hands). h.peers.role) is;
+  items = same.items.role ∙ ap (λ (h : Hands). h.items.role) is;
+}
+
+-- ---- where they end
 
 roles_still : (r : ℕ) (ks ls : List Seeker) → RolesFrom r ks → SameSeats ks ls → RolesFrom r ls
 roles_still r [] [] h s = tt
@@ -28,43 +83,51 @@ roles_still r (k ∷ ks) [] h s = absurd s
 roles_still r (k ∷ ks) (l ∷ ls) h s = (s.0.role ∙ h.0, roles_still (suc r) ks ls h.1 s.1)
 
 -- what was written through a slice of the whole list
-pub written : (n : ℕ) (xs ys : List Seeker) → n ≡ length ys → length ys ≡ length xs → take n (ys ++ drop (length ys) xs) ≡ ys
+written : (n : ℕ) (xs ys : List Seeker) → n ≡ length ys → length ys ≡ length xs → take n (ys ++ drop (length ys) xs) ≡ ys
 written n xs ys is len = ap (λ k. take k (ys ++ drop (length ys) xs)) is ∙ take-append_seam ys (drop (length ys) xs)
 
-module _ (T : TurnState TableState) (P : TurnState PeersState) (I : TurnState ItemsState) (n : ℕ) (ks ls : List Seeker) (host host' : Hands) (count : length ks ≡ n) (passes : map (λ (k : Seeker). k.pass) ks ≡ map (fresh T.id) (range_with_len 1 n)) (is_host : host ≡ hands (fresh T.id 0) (fresh P.id 0) (fresh I.id 0)) (same : SameHands host host') (seats : SameSeats ks ls) (len : length ls ≡ length ks)
-    (row : List TablePass) (peers_row : List PeersPass) (items_row : List ItemsPass) (row_is : row ≡ host'.table ∷ map (λ (k : Seeker). k.pass) (reverse ls)) (peers_is : peers_row ≡ host'.peers ∷ []) (items_is : items_row ≡ host'.items ∷ []) where
-  fresh_passes : map (λ (k : Seeker). k.pass) ks ≡ map (fresh T.id) (range_with_len 1 (length ks))
-  fresh_passes = passes ∙ ap (λ m. map (fresh T.id) (range_with_len 1 m)) (sym count)
+-- and so the lookups, where they ended: they are those of the slice, and have the passes that they were given
+pub record Returned (T : TurnState TableState) (jobs : List Job) (ls xs : List Seeker) : Type 0 where
+  pub are : xs ≡ ls
+  pub count : length xs ≡ length jobs
+  pub own : AllByRecursion (IsSeated T) xs
+  pub roles : RolesFrom 1 xs
 
-  pub are_back : AreBack (rows T P I row peers_row items_row) host' ls
-  are_back = record {
-    tables = row_is;
-    peers = peers_is;
-    items = items_is;
-    driver = same.table.role ∙ ap (λ (h : Hands). h.table.role) is_host;
-    driver_peers = same.peers.role ∙ ap (λ (h : Hands). h.peers.role) is_host;
-    driver_items = same.items.role ∙ ap (λ (h : Hands). h.items.role) is_host;
-    roles = roles_still 1 ks ls (roles_at T 1 ks fresh_passes) seats;
+pub returned_through : (server : ServeSetting) (setting : ManySetting) (T : TurnState TableState) (jobs : List Job) (n : ℕ) (ks vs ls : List Seeker) → Seated server setting T jobs vs → vs ≡ ks → n ≡ length ks → length ls ≡ length vs → SameSeats vs ls → Returned T jobs ls (take n (ls ++ drop (length ls) ks))
+returned_through server setting T jobs n ks vs ls s is room len seats =
+    let back : take n (ls ++ drop (length ls) ks) ≡ ls = written n ks ls (room ∙ ap length (sym is) ∙ sym len) (len ∙ ap length is) in
+    record {
+      are = back;
+      count = ap length back ∙ len ∙ s.count;
+      own = subst (AllByRecursion (IsSeated T)) (sym back) (seated_still T vs ls s.own seats);
+      roles = subst (RolesFrom 1) (sym back) (roles_still 1 vs ls s.roles seats);
+    }
+
+-- ---- the passes are put back
+
+module _ (desk : Desk) (ls : List Seeker) (host : Hands) (own : IsOfDesk desk host) (row : List TablePass) (peers_row : List PeersPass) (items_row : List ItemsPass)
+    (row_is : row ≡ host.table ∷ map (λ (k : Seeker). k.pass) (reverse ls)) (peers_is : peers_row ≡ host.peers ∷ []) (items_is : items_row ≡ host.items ∷ []) where
+  pub are_back : IsAlone host → RolesFrom 1 ls → AreBack (rows desk.table.now desk.peers.now desk.items.now row peers_row items_row) host ls
+  are_back a roles = record { tables = row_is; peers = peers_is; items = items_is; driver = own.driver; driver_peers = a.peers; driver_items = a.items; roles = roles }
+
+  pub tables_back : AllByRecursion (IsSeated desk.table.now) ls → desk.table.now.roles ≡ length ls + 1 → AreAll desk.table.now row
+  tables_back seated roles = record {
+    count = (let l = ap length row_is in let m = length-map (reverse ls) (λ (k : Seeker). k.pass) in let r = length-reverse ls in omega (arith, l, m, r, roles));
+    own = All-same (λ (p : TablePass). p.turn ≡ desk.table.now.id) row (host.table ∷ map (λ (k : Seeker). k.pass) (reverse ls)) row_is
+        (All-cons (λ (p : TablePass). p.turn ≡ desk.table.now.id) host.table (map (λ (k : Seeker). k.pass) (reverse ls)) own.table
+        (all_in_row (λ (k : Seeker). k.pass) ls (λ (p : TablePass). p.turn ≡ desk.table.now.id) (All-from_recursion (IsSeated desk.table.now) ls seated)));
   }
 
-  pub tables_back : T.roles ≡ n + 1 → AreAll T row
-  tables_back roles = record {
-    count = (let l = ap length row_is in let m = length-map (reverse ls) (λ (k : Seeker). k.pass) in let r = length-reverse ls in omega (arith, l, m, r, len, count, roles));
-    own = All-same (λ (p : TablePass). p.turn ≡ T.id) row (host'.table ∷ map (λ (k : Seeker). k.pass) (reverse ls)) row_is
-        (All-cons (λ (p : TablePass). p.turn ≡ T.id) host'.table (map (λ (k : Seeker). k.pass) (reverse ls)) (same.table.turn ∙ ap (λ (h : Hands). h.table.turn) is_host)
-        (all_in_row (λ (k : Seeker). k.pass) ls (λ (p : TablePass). p.turn ≡ T.id) (All-from_recursion (IsSeated T) ls (seated_still T ks ls (seated_at T 1 ks fresh_passes) seats))));
-  }
-
-  pub peers_back : P.roles ≡ 1 → AreAll P peers_row
+  pub peers_back : desk.peers.now.roles ≡ 1 → AreAll desk.peers.now peers_row
   peers_back roles = record {
     count = (let l = ap length peers_is in omega (arith, l, roles));
-    own = All-same (λ (p : PeersPass). p.turn ≡ P.id) peers_row (host'.peers ∷ []) peers_is (All-cons (λ (p : PeersPass). p.turn ≡ P.id) host'.peers [] (same.peers.turn ∙ ap (λ (h : Hands). h.peers.turn) is_host) (All-nil (λ (p : PeersPass). p.turn ≡ P.id)));
+    own = All-same (λ (p : PeersPass). p.turn ≡ desk.peers.now.id) peers_row (host.peers ∷ []) peers_is (All-cons (λ (p : PeersPass). p.turn ≡ desk.peers.now.id) host.peers [] own.peers (All-nil (λ (p : PeersPass). p.turn ≡ desk.peers.now.id)));
   }
 
-  pub items_back : I.roles ≡ 1 → AreAll I items_row
+  pub items_back : desk.items.now.roles ≡ 1 → AreAll desk.items.now items_row
   items_back roles = record {
     count = (let l = ap length items_is in omega (arith, l, roles));
-    own = All-same (λ (p : ItemsPass). p.turn ≡ I.id) items_row (host'.items ∷ []) items_is (All-cons (λ (p : ItemsPass). p.turn ≡ I.id) host'.items [] (same.items.turn ∙ ap (λ (h : Hands). h.items.turn) is_host) (All-nil (λ (p : ItemsPass). p.turn ≡ I.id)));
+    own = All-same (λ (p : ItemsPass). p.turn ≡ desk.items.now.id) items_row (host.items ∷ []) items_is (All-cons (λ (p : ItemsPass). p.turn ≡ desk.items.now.id) host.items [] own.items (All-nil (λ (p : ItemsPass). p.turn ≡ desk.items.now.id)));
   }
 
 -- ---- what is left of them

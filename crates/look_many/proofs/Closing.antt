@@ -18,9 +18,9 @@ use Rattle.peer_store.specs.PeersStep.{PeersMay, PeersStep, peers_after}
 use Rattle.item_store.specs.Items.{ItemsState, no_items as empty_items}
 use Rattle.item_store.specs.ItemSteps.{ItemMay, ItemStep, item_after}
 use Rattle.serve_crew.specs.Hands.{TablePass}
+use Rattle.lookup_crowd.specs.declared.seeker.ManyFault.{ManyFault}
+use Rattle.lookup_crowd.specs.declared.seeker.ManyFault.TheVariants.{NoMemory}
 use Rattle.look_many.specs.declared.found.Many.{Many}
-use Rattle.look_many.specs.declared.seeker.ManyFault.{ManyFault}
-use Rattle.look_many.specs.declared.seeker.ManyFault.TheVariants.{NoMemory}
 use Rattle.look_many.specs.ManyLooked.{ManyLooked, ManyStopped, NoneBegan, IsWithinLimits}
 use Rattle.look_many.specs.inner.Seats.{Rows}
 use Rattle.look_many.specs.inner.Ends.{Task, FoundBack, StoppedBack}

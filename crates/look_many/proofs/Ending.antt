@@ -14,9 +14,9 @@ use Rattle.contact_table.specs.TableState.{TableState}
 use Rattle.contact_table.specs.TableStep.{TableMay, TableStep, table_after}
 use Rattle.contact_table.specs.declared.calls.TableCall.{TableCall}
 use Rattle.contact_table.specs.Told.{HasMemory}
-use Rattle.contact_table.specs.declared.calls.TableCall.TheVariants.{Closest, Failed, Seen as Seen_call}
+use Rattle.contact_table.specs.declared.calls.TableCall.TheVariants.{Closest, Failed, Seen as Seen_call, Vouched, Vouchers}
 use Rattle.contact_table.specs.declared.calls.TableReply.{TableReply}
-use Rattle.contact_table.specs.declared.calls.TableReply.TheVariants.{List as Listed, Gone as Gone_reply, Seen as Seen_reply, Crowded as Host_crowded, NoMemory}
+use Rattle.contact_table.specs.declared.calls.TableReply.TheVariants.{List as Listed, Reports, Gone as Gone_reply, Seen as Seen_reply, Crowded as Host_crowded, NoMemory}
 use Rattle.peer_store.specs.Peers.{PeersState, no_peers as empty_peers}
 use Rattle.peer_store.specs.PeersStep.{PeersMay, PeersStep, peers_after}
 use Rattle.peer_store.specs.declared.calls.PeerCall.{PeerCall}
@@ -29,7 +29,7 @@ use Rattle.node_serve.specs.Calls.{Did, HasRoom, HasItemRoom}
 use Rattle.node_serve.specs.declared.setting.ServeSetting.{ServeSetting}
 use Rattle.serve_crew.specs.Hands.{Hands, TablePass, at_table, at_peers, at_items}
 use Rattle.serve_crew.specs.Runs.{Ran, HadAllMemory, AreCalls}
-use Rattle.look_many.specs.declared.seeker.Seeker.{Seeker}
+use Rattle.lookup_crowd.specs.declared.seeker.Seeker.{Seeker}
 use Rattle.look_many.specs.Job.{target_of}
 use Rattle.look_many.specs.ManyLooked.{seeds_for, seeks, AreOfDriver}
 use Rattle.look_many.specs.inner.Seats.{RolesFrom, Rows, AreBack}
@@ -190,10 +190,13 @@ module _ (server : ServeSetting) (jobs : List Job) (r : Rows) (before after : Ta
     where
       one : (c : TableCall) (y : TableReply) → TableStep s m.role c y → IsFailed c → HasMemory y
       one (Seen_call x) y step fails = absurd fails
+      one (Vouched x proof) y step fails = absurd fails
       one (Closest target n) y step fails = absurd fails
+      one (Vouchers target n) y step fails = absurd fails
       one (Failed x) (Gone_reply gone) step is = tt
       one (Failed x) (Seen_reply seen) step is = absurd step
       one (Failed x) (Listed list) step is = absurd step
+      one (Failed x) (Reports reports) step is = absurd step
       one (Failed x) Host_crowded step is = absurd step
       one (Failed x) NoMemory step is = absurd step
 

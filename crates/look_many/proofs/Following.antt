@@ -15,23 +15,24 @@ use Rattle.node_serve.specs.declared.setting.ServeSetting.{ServeSetting}
 use Rattle.node_serve.specs.Receives.{tried}
 use Rattle.node_serve.specs.Sealing.{Tags}
 use Rattle.serve_crew.specs.Hands.{Hands, SameHands}
-use Rattle.look_many.specs.declared.follow.FollowUp.{FollowUp}
-use Rattle.look_many.specs.declared.seeker.Seeker.{Seeker}
-use Rattle.look_many.specs.declared.seeker.Progress.{Progress}
-use Rattle.look_many.specs.declared.seeker.ManyFault.{ManyFault}
-use Rattle.look_many.specs.declared.seeker.ManyFault.TheVariants.{NoMemory}
-use Rattle.look_many.specs.Many.{Frame, Shown, Reading, nothing_read, said_by, and_then, follow_bytes, SaysNext}
-use Rattle.look_many.specs.ManyLooked.{drawn_by}
-use Rattle.look_many.specs.inner.Crowd.{whose, IsLegal, SameSeat, KeepsProgress, ManyShow, Stand, stand, Advances, Follows}
-use Rattle.look_many.specs.inner.ManySteps.{for_follow_ups, MayReceive, MayServe, Received, RanOn, Stops, EndsEarly}
-use Rattle.look_many.specs.inner.Following.{CarriesOf, IsNext, Says, EndsSaying}
-use Rattle.look_many.proofs.Heard.{same_seats, seats_then}
-use Rattle.look_many.proofs.Hosting.{ran_none, ran_then, ran_on_none}
-use Rattle.look_many.proofs.Walking.{nothing_after, then_assoc, shows_more}
-use Rattle.look_many.proofs.Telling.{none_shown, each_over, all_longer, stops_early, IsEarly}
-use Rattle.look_many.proofs.Rounding.{stays_none, stays_then}
+use Rattle.lookup_crowd.specs.declared.due.FollowUp.{FollowUp}
+use Rattle.lookup_crowd.specs.declared.seeker.Seeker.{Seeker}
+use Rattle.lookup_crowd.specs.declared.seeker.Progress.{Progress}
+use Rattle.lookup_crowd.specs.declared.seeker.ManyFault.{ManyFault}
+use Rattle.lookup_crowd.specs.declared.seeker.ManyFault.TheVariants.{NoMemory}
+use Rattle.lookup_crowd.specs.Many.{Frame, Shown, Reading, nothing_read, said_by, and_then, follow_bytes, SaysNext}
+use Rattle.lookup_crowd.specs.Errands.{drawn_by}
+use Rattle.lookup_crowd.specs.inner.Crowd.{whose, IsLegal, SameSeat, KeepsProgress, ManyShow, Stand, stand, Advances}
+use Rattle.lookup_crowd.specs.inner.ManySteps.{for_follow_ups, MayReceive, Received, RanOn, Stops, EndsEarly}
+use Rattle.lookup_crowd.proofs.Heard.{same_seats, seats_then}
+use Rattle.lookup_crowd.proofs.Hosting.{ran_none, ran_then, ran_on_none}
+use Rattle.lookup_crowd.proofs.Walking.{nothing_after, then_assoc, shows_more}
+use Rattle.lookup_crowd.proofs.Telling.{none_shown, each_over, all_longer, stops_early, IsEarly}
+use Rattle.lookup_crowd.proofs.Rounding.{stays_none, stays_then}
+use Rattle.lookup_crowd.proofs.Gone.{hands_then, hands_same}
+use Rattle.look_many.specs.inner.Following.{Follows, CarriesOf, IsNext, Says, EndsSaying}
+use Rattle.look_many.specs.inner.Serving.{MayServe}
 use Rattle.look_many.proofs.ServingOn.{over_next, stays_same}
-use Rattle.look_many.proofs.Gone.{hands_then, hands_same}
 
 -- after a follow-up one less is left, and it began a round
 abbrev pub said_once : Progress → Progress
@@ -51,7 +52,7 @@ module _ (f : Frame) (count place : ℕ) (read : Reading) (ks : List Seeker) (pr
       let at : h.end.followed ≡ length follows - progress.unsaid = omega (arith, within, left, same) in
       ap (λ n. slice_get f.follows n) at ∙ ap (λ (l : List FollowUp). slice_get l (length follows - progress.unsaid)) known ∙ is_next
 
-  says_next : (was_sent : Bool) → SaysNext f (map whose ks) h.end follow.to (follow_bytes (word f.seed place) follow.ask) was_sent (said_by follow.owner was_sent) after
+  says_next : (was_sent : Bool) → SaysNext f (map whose ks) h.end follow.to (follow_bytes f.server.proof (word f.seed place) follow.ask) was_sent (said_by follow.owner was_sent) after
   unfolding after
   says_next was_sent = record {
     due = follow;
@@ -61,7 +62,7 @@ module _ (f : Frame) (count place : ℕ) (read : Reading) (ks : List Seeker) (pr
     round_over = h.keeps_progress.receives ∙ may.round_over;
     next = next;
     to_is = refl;
-    bytes_are = ap (λ n. follow_bytes (word f.seed n) follow.ask) (sym h.keeps_progress.sends);
+    bytes_are = ap (λ n. follow_bytes f.server.proof (word f.seed n) follow.ask) (sym h.keeps_progress.sends);
     read_is = refl;
     after = refl;
   }
@@ -72,17 +73,17 @@ module _ (f : Frame) (count place : ℕ) (read : Reading) (ks : List Seeker) (pr
       let st = h.keeps_progress in
       record { moment = st.moment; ends = st.ends; sends = (let e = st.sends in omega (arith, e)); got = st.got; foreign = st.foreign; replied = st.replied; receives = refl; left = st.left; owed_is = st.owed_is }
 
-  pub said_on : (was_sent : Bool) → ManyShow false f count ks (said_once progress) (place + 1) None (and_then read (said_by follow.owner was_sent)) (es ++ tried was_sent follow.to (follow_bytes (word f.seed place) follow.ask) ∷ [])
+  pub said_on : (was_sent : Bool) → ManyShow false f count ks (said_once progress) (place + 1) None (and_then read (said_by follow.owner was_sent)) (es ++ tried was_sent follow.to (follow_bytes f.server.proof (word f.seed place) follow.ask) ∷ [])
   unfolding after
   said_on true =
       let lt = slice_get_within f.follows h.end.followed follow next in
       let left = h.keeps_saying.left in
-      shows_more false f count place (place + 1) None None read (said_by follow.owner true) ks ks progress (said_once progress) (Sent follow.to (follow_bytes (word f.seed place) follow.ask)) es h after (all_longer ks) (λ idle. refl) (inr (inr (says_next true))) keeps_on h.keeps_each
+      shows_more false f count place (place + 1) None None read (said_by follow.owner true) ks ks progress (said_once progress) (Sent follow.to (follow_bytes f.server.proof (word f.seed place) follow.ask)) es h after (all_longer ks) (λ idle. refl) (inr (inr (says_next true))) keeps_on h.keeps_each
       (record { within = omega (arith, lt); left = omega (arith, left); some = λ idle one. omega (arith, lt) })
   said_on false =
       let lt = slice_get_within f.follows h.end.followed follow next in
       let left = h.keeps_saying.left in
-      shows_more false f count place (place + 1) None None read (said_by follow.owner false) ks ks progress (said_once progress) (Unsent follow.to (follow_bytes (word f.seed place) follow.ask)) es h after (all_longer ks) (λ idle. refl) (inr (inr (says_next false))) keeps_on h.keeps_each
+      shows_more false f count place (place + 1) None None read (said_by follow.owner false) ks ks progress (said_once progress) (Unsent follow.to (follow_bytes f.server.proof (word f.seed place) follow.ask)) es h after (all_longer ks) (λ idle. refl) (inr (inr (says_next false))) keeps_on h.keeps_each
       (record { within = omega (arith, lt); left = omega (arith, left); some = λ idle one. omega (arith, lt) })
 
 -- ---- going on
@@ -128,7 +129,7 @@ module _ (follows : List FollowUp) (accepts : Accepts) (tags : Tags) (server : S
 
   -- one follow-up
   follows_one : (follow : FollowUp) (was_sent : Bool) (ks : List Seeker) (progress progress' : Progress) (words words' : WordsState) (host : Hands) (told told' : Option (List Event)) → MayServe ks progress → IsNext follows progress follow → progress' ≡ said_once progress → words' ≡ record words { place = words.place + 1 }
-      → Grows told told' (λ es. es ≡ tried was_sent follow.to (follow_bytes (word words.seed words.place) follow.ask) ∷ [])
+      → Grows told told' (λ es. es ≡ tried was_sent follow.to (follow_bytes server.proof (word words.seed words.place) follow.ask) ∷ [])
       → Follows follows (follow.owner ∷ []) (cond was_sent (follow.owner ∷ []) []) accepts tags server (stand ks progress words host told) (stand ks progress' words' host told')
   follows_one follow was_sent ks progress progress' words words' host told told' may is_next is drawn grows = record {
     more = said_by follow.owner was_sent;
@@ -140,8 +141,9 @@ module _ (follows : List FollowUp) (accepts : Accepts) (tags : Tags) (server : S
         subst (λ (p : Progress). ManyShow false f count ks p words'.place None now (es ++ fs)) (sym is)
         (subst (λ (w : WordsState). ManyShow false f count ks (said_once progress) w.place None now (es ++ fs)) (sym drawn)
         (subst (λ l. ManyShow false f count ks (said_once progress) (words.place + 1) None now (es ++ l)) (sym e)
-        (subst (λ (x : List ℕ). ManyShow false f count ks (said_once progress) (words.place + 1) None now (es ++ tried was_sent follow.to (follow_bytes (word x words.place) follow.ask) ∷ [])) frame.seed_is
-        (said_on f count words.place read ks progress follows follow es known may is_next shows was_sent)))));
+        (subst (λ (x : List ℕ). ManyShow false f count ks (said_once progress) (words.place + 1) None now (es ++ tried was_sent follow.to (follow_bytes server.proof (word x words.place) follow.ask) ∷ [])) frame.seed_is
+        (subst (λ (s : ServeSetting). ManyShow false f count ks (said_once progress) (words.place + 1) None now (es ++ tried was_sent follow.to (follow_bytes s.proof (word f.seed words.place) follow.ask) ∷ [])) frame.server_is
+        (said_on f count words.place read ks progress follows follow es known may is_next shows was_sent))))));
     ran = ran_none host;
     seed = ap (λ (w : WordsState). w.seed) drawn;
   }
@@ -176,7 +178,7 @@ unsaid_after old new progress between progress' is r = r.unsaid ∙ ap (λ (p : 
 module _ (follows : List FollowUp) (accepts : Accepts) (tags : Tags) (server : ServeSetting) where
   -- a follow-up, and the receive behind it
   pub says_one : (follow : FollowUp) (was_sent : Bool) (ks ls : List Seeker) (progress between progress' : Progress) (words words' : WordsState) (host host' : Hands) (told mid told' : Option (List Event)) (owners owners' said said' : List ℕ) → MayServe ks progress → 0 < progress.unsaid → IsNext follows progress follow → between ≡ said_once progress → words' ≡ record words { place = words.place + 1 }
-      → Grows told mid (λ es. es ≡ tried was_sent follow.to (follow_bytes (word words.seed words.place) follow.ask) ∷ []) → owners' ≡ owners ++ follow.owner ∷ [] → said' ≡ said ++ cond was_sent (follow.owner ∷ []) [] → SameHands host host' → Received false ks ls between progress'
+      → Grows told mid (λ es. es ≡ tried was_sent follow.to (follow_bytes server.proof (word words.seed words.place) follow.ask) ∷ []) → owners' ≡ owners ++ follow.owner ∷ [] → said' ≡ said ++ cond was_sent (follow.owner ∷ []) [] → SameHands host host' → Received false ks ls between progress'
       → Advances false [] accepts tags server (stand ks between words' host mid) (stand ls progress' words' host' told') → Says follows accepts tags server (stand ks progress words host told) (stand ls progress' words' host' told') owners owners' said said'
   says_one follow was_sent ks ls progress between progress' words words' host host' told mid told' owners owners' said said' may some is_next is drawn grows owned told_too same r a =
       let one = cond was_sent (follow.owner ∷ []) [] in
@@ -267,7 +269,7 @@ module _ (follows : List FollowUp) (accepts : Accepts) (tags : Tags) (server : S
 
   -- in the receive behind it
   pub ends_said : (fault : ManyFault) (follow : FollowUp) (was_sent : Bool) (ks : List Seeker) (progress between : Progress) (words words' : WordsState) (host host' : Hands) (told mid told' : Option (List Event)) → MayServe ks progress → IsNext follows progress follow → between ≡ said_once progress → words' ≡ record words { place = words.place + 1 }
-      → Grows told mid (λ es. es ≡ tried was_sent follow.to (follow_bytes (word words.seed words.place) follow.ask) ∷ []) → AllByRecursion IsLegal ks → Stops false fault accepts tags server (stand ks between words' host mid) told' → RanOn host host' → EndsSaying fault follows accepts tags server (stand ks progress words host told) words' host' told'
+      → Grows told mid (λ es. es ≡ tried was_sent follow.to (follow_bytes server.proof (word words.seed words.place) follow.ask) ∷ []) → AllByRecursion IsLegal ks → Stops false fault accepts tags server (stand ks between words' host mid) told' → RanOn host host' → EndsSaying fault follows accepts tags server (stand ks progress words host told) words' host' told'
   ends_said fault follow was_sent ks progress between words words' host host' told mid told' may is_next is drawn grows legal stops ran =
       let k = stays_none ks in
       record {

@@ -7,7 +7,6 @@ use Rattle.kad_base.specs.declared.types.Id.{Id}
 use Rattle.kad_base.specs.declared.types.Contact.{Contact}
 use Rattle.kad_base.specs.Contacts.{without}
 use Rattle.kad_distance.proofs.Chosen.{closest_few}
-use Rattle.kad_krpc.specs.Form.{IsWritableAsk}
 use Rattle.claim_book.specs.declared.types.Setting.{Setting}
 use Rattle.claim_book.specs.declared.types.Entry.{Entry}
 use Rattle.claim_book.specs.Journal.{took, failed}
@@ -24,20 +23,21 @@ use Rattle.follow_ups.proofs.Announcing.{few_tokens, may_write}
 use Rattle.follow_ups.specs.declared.announce.Announcement.{Announcement}
 use Rattle.contact_table.specs.TableState.{TableState}
 use Rattle.node_serve.specs.declared.setting.ServeSetting.{ServeSetting}
-use Rattle.look_many.specs.declared.follow.FollowUp.{FollowUp}
+use Rattle.lookup_crowd.specs.declared.due.FollowUp.{FollowUp}
+use Rattle.lookup_crowd.specs.declared.seeker.Seeker.{Seeker}
+use Rattle.lookup_crowd.specs.Mine.{Mine, Whose}
+use Rattle.lookup_crowd.specs.inner.Crowd.{whose, KeepsMine}
+use Rattle.lookup_crowd.specs.inner.Going.{Lives}
+use Rattle.lookup_crowd.proofs.Zips.{zip_then}
 use Rattle.look_many.specs.declared.found.ManySetting.{ManySetting}
 use Rattle.look_many.specs.declared.found.One.{One}
 use Rattle.look_many.specs.declared.job.Job.{Job}
 use Rattle.look_many.specs.declared.job.Job.TheVariants.{Find, Peers, Announce, Get, Put}
-use Rattle.look_many.specs.declared.seeker.Seeker.{Seeker}
 use Rattle.look_many.specs.Job.{MaySayOf, kind_of, may_owe, owed_for}
-use Rattle.look_many.specs.Mine.{Mine, Whose}
 use Rattle.look_many.specs.Planned.{by, follow_ups, follows_read}
-use Rattle.look_many.specs.inner.Crowd.{whose, KeepsMine}
+use Rattle.look_many.specs.inner.Following.{IsSayable}
 use Rattle.look_many.specs.inner.Kept.{owed_of, follows_kept}
-use Rattle.look_many.specs.inner.Going.{Lives}
 use Rattle.look_many.specs.inner.Seats.{IsSeekerFor, IsDone, IsHanded}
-use Rattle.look_many.proofs.Zips.{zip_then}
 
 -- ---- the plan
 
@@ -140,20 +140,20 @@ map_all P Q f [] h all = tt
 map_all P Q f (x ∷ xs) h all = (h x all.0, map_all P Q f xs h all.1)
 
 -- each has a written form
-owed_written : (own : Id) (job : Job) (found : List Contact) (tokens : List Token) → MaySayOf job → AllByRecursion (λ (a : Announcement). IsWritableAsk a.ask) (owed_for own job found tokens)
+owed_written : (own : Id) (job : Job) (found : List Contact) (tokens : List Token) → MaySayOf job → AllByRecursion (λ (a : Announcement). IsSayable a.ask) (owed_for own job found tokens)
 owed_written own (Find target) found tokens h = tt
 owed_written own (Peers key) found tokens h = tt
 owed_written own (Announce key port) found tokens h =
-    all_map (λ (a : Announcement). IsWritableAsk a.ask) (announcement (announcing own key port)) (tokens_for found tokens) (λ t. may_write (Peer own key port) t.token (announcing own key port t.token) refl tt)
+    all_map (λ (a : Announcement). IsSayable a.ask) (announcement (announcing own key port)) (tokens_for found tokens) (λ t proof. may_write proof (Peer own key port) t.token (announcing own key port t.token) refl tt)
 owed_written own (Get key) found tokens h = tt
-owed_written own (Put key v) found tokens h = all_map (λ (a : Announcement). IsWritableAsk a.ask) (announcement (putting own v)) (tokens_for found tokens) (λ t. record { form = h; immutable = refl })
+owed_written own (Put key v) found tokens h = all_map (λ (a : Announcement). IsSayable a.ask) (announcement (putting own v)) (tokens_for found tokens) (λ t proof. record { form = h; immutable = refl })
 
-pub kept_written : (own : Id) (i : ℕ) (jobs : List Job) (ks : List Seeker) → AllByRecursion MaySayOf jobs → AllByRecursion (λ (f : FollowUp). IsWritableAsk f.ask) (follows_kept own i jobs ks)
+pub kept_written : (own : Id) (i : ℕ) (jobs : List Job) (ks : List Seeker) → AllByRecursion MaySayOf jobs → AllByRecursion (λ (f : FollowUp). IsSayable f.ask) (follows_kept own i jobs ks)
 kept_written own i [] ks h = tt
 kept_written own i (j ∷ jobs) [] h = tt
 kept_written own i (j ∷ jobs) (k ∷ ks) h =
-    all_append (λ (f : FollowUp). IsWritableAsk f.ask) (map (by i) (owed_of own j k)) (follows_kept own (suc i) jobs ks)
-    (map_all (λ (f : FollowUp). IsWritableAsk f.ask) (λ (a : Announcement). IsWritableAsk a.ask) (by i) (owed_of own j k) (λ a w. w) (owed_written own j (result_of k.lookup.book.setting k.lookup.book.journal) k.gathered.tokens h.0))
+    all_append (λ (f : FollowUp). IsSayable f.ask) (map (by i) (owed_of own j k)) (follows_kept own (suc i) jobs ks)
+    (map_all (λ (f : FollowUp). IsSayable f.ask) (λ (a : Announcement). IsSayable a.ask) (by i) (owed_of own j k) (λ a w. w) (owed_written own j (result_of k.lookup.book.setting k.lookup.book.journal) k.gathered.tokens h.0))
     (kept_written own (suc i) jobs ks h.1)
 
 few_found : (s : Setting) (J : List Entry) → length (result_of s J) ≤ s.k

@@ -47,27 +47,29 @@ use Rattle.lookup_core.specs.declared.quest.AskKind.TheVariants.{FindNode}
 use Rattle.lookup_core.specs.declared.quest.Quest.{Quest}
 use Rattle.lookup_core.proofs.Gathering.{each_of_none}
 use Rattle.lookup_core.proofs.Received.{seeds_append}
-use Rattle.look_many.specs.declared.follow.FollowUp.{FollowUp}
+use Rattle.lookup_crowd.specs.declared.due.FollowUp.{FollowUp}
+use Rattle.lookup_crowd.specs.declared.seeker.Seeker.{Seeker}
+use Rattle.lookup_crowd.specs.declared.seeker.Progress.{Progress}
+use Rattle.lookup_crowd.specs.declared.seeker.ManyFault.{ManyFault}
+use Rattle.lookup_crowd.specs.declared.seeker.ManyFault.TheVariants.{NoMemory}
+use Rattle.lookup_crowd.specs.Many.{Frame, nothing_read, EndsAtForeign}
+use Rattle.lookup_crowd.specs.Errands.{note_of, noted, Errand, answering, losing, did_of, answer_in, drawn_by}
+use Rattle.lookup_crowd.specs.inner.Crowd.{whose, IsLegal, ManyShow, Stand, IsFrame}
+use Rattle.lookup_crowd.specs.inner.ManySteps.{ShowsEarly, ShowsForeign}
+use Rattle.lookup_crowd.specs.inner.Going.{Lives, Goes}
+use Rattle.lookup_crowd.proofs.Zips.{zip_both, zip_length, zip_then, zip_weaker}
+use Rattle.lookup_crowd.proofs.Hosting.{ran_on_none}
 use Rattle.look_many.specs.declared.found.ManySetting.{ManySetting}
 use Rattle.look_many.specs.declared.found.One.{One}
 use Rattle.look_many.specs.declared.found.Many.{Many}
-use Rattle.look_many.specs.declared.seeker.Seeker.{Seeker}
-use Rattle.look_many.specs.declared.seeker.Progress.{Progress}
-use Rattle.look_many.specs.declared.seeker.ManyFault.{ManyFault}
-use Rattle.look_many.specs.declared.seeker.ManyFault.TheVariants.{NoMemory}
 use Rattle.look_many.specs.Job.{kind_of}
-use Rattle.look_many.specs.Many.{Frame, nothing_read, EndsAtForeign}
-use Rattle.look_many.specs.ManyLooked.{setting_for, quest_for, seeds_for, reads_for, all_read, IsJournalFor, IsFound, frame_for, note_of, noted, seeks, Errand, answering, losing, did_of, answer_in, AreSent, ManyTold, drawn_by, journals_of, ManyLooked, TellsEarly, ManyBegan, IsWithinLimits}
-use Rattle.look_many.specs.inner.Crowd.{whose, IsLegal, count_of, ManyShow, Stand, IsFrame}
-use Rattle.look_many.specs.inner.ManySteps.{ShowsEarly, ShowsForeign}
-use Rattle.look_many.specs.inner.Going.{Lives, Goes, WentWhole, EndsWhole}
-use Rattle.look_many.specs.inner.Seats.{IsSeekerFor, IsDone, IsHanded, Rows}
+use Rattle.look_many.specs.ManyLooked.{setting_for, quest_for, seeds_for, reads_for, all_read, IsJournalFor, IsFound, frame_for, seeks, AreSent, ManyTold, journals_of, ManyLooked, TellsEarly, ManyBegan, IsWithinLimits}
+use Rattle.look_many.specs.inner.Seats.{count_of, IsSeekerFor, IsDone, IsHanded, Rows}
+use Rattle.look_many.specs.inner.Going.{WentWhole, EndsWhole}
 use Rattle.look_many.specs.inner.Ends.{Task, Starts, FoundBack, StoppedBack}
 use Rattle.look_many.proofs.Planning.{IsOfKind, kept_found}
 use Rattle.look_many.proofs.Starting.{begin_seeds, all_fresh_of}
 use Rattle.look_many.proofs.Whole.{begins, told_whole, tells_early, ends_at_foreign}
-use Rattle.look_many.proofs.Zips.{zip_both, zip_length, zip_then, zip_weaker}
-use Rattle.look_many.proofs.Hosting.{ran_on_none}
 use Rattle.look_many.proofs.Ending.{Remembers, ended_ran, ended_of_driver, ended_memory, driver_calls_are, lookup_calls}
 
 -- ---- one lookup

@@ -6,13 +6,14 @@ use Rattle.std.proofs.lemmas.List.{append-nil}
 use Rattle.claim_book.specs.Journal.{may_ask}
 use Rattle.claim_book.specs.RunOut.{RunOut}
 use Rattle.node_serve.specs.Lasting.{waits_to}
-use Rattle.look_many.specs.declared.seeker.Seeker.{Seeker}
-use Rattle.look_many.specs.declared.seeker.Progress.{Progress}
-use Rattle.look_many.specs.Mine.{Whose}
-use Rattle.look_many.specs.inner.Crowd.{whose, NoneAsks, Longer, DrivenOn, SameSeat, queries_of}
-use Rattle.look_many.specs.inner.ManySteps.{IsRunOut, for_others, MayReceive, MayServe, Received, WantsMore}
+use Rattle.lookup_crowd.specs.declared.seeker.Seeker.{Seeker}
+use Rattle.lookup_crowd.specs.declared.seeker.Progress.{Progress}
+use Rattle.lookup_crowd.specs.Mine.{Whose}
+use Rattle.lookup_crowd.specs.inner.Crowd.{whose, NoneAsks, Longer, DrivenOn, SameSeat, queries_of}
+use Rattle.lookup_crowd.specs.inner.ManySteps.{IsRunOut, for_others, MayReceive, Received}
+use Rattle.look_many.specs.inner.Serving.{MayServe, WantsMore}
 use Rattle.lookup_core.proofs.Received.{none_driven}
-use Rattle.look_many.proofs.Rounding.{Stays}
+use Rattle.lookup_crowd.proofs.Rounding.{Stays}
 
 pub may_serve : (ks : List Seeker) (progress : Progress) (until : ℕ) → MayServe ks progress → progress.unsaid ≡ 0 → WantsMore progress → until ≡ waits_to progress.end progress.moment → MayReceive ks progress until false
 may_serve ks progress until may unsaid more waits = record {

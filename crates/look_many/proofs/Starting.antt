@@ -14,15 +14,16 @@ use Rattle.lookup_core.proofs.Received.{seeds_quiet}
 use Rattle.lookup_core.specs.Timeouts.{deadline_of}
 use Rattle.lookup_core.proofs.Seeds.{seeds_stand, seeds_ask, seeds_settled, seeds_open}
 use Rattle.node_serve.specs.declared.setting.ServeSetting.{ServeSetting}
+use Rattle.lookup_crowd.specs.declared.seeker.Seeker.{Seeker}
+use Rattle.lookup_crowd.specs.Mine.{driven}
+use Rattle.lookup_crowd.specs.Errands.{max_lookups}
+use Rattle.lookup_crowd.specs.inner.Crowd.{Holding, NothingLeft, queries_of, asks_of, Stand}
+use Rattle.lookup_crowd.specs.inner.ManySteps.{IsReady, IsSeated}
+use Rattle.lookup_crowd.specs.inner.Going.{Begins}
+use Rattle.lookup_crowd.proofs.Zips.{zip_length}
 use Rattle.look_many.specs.declared.found.ManySetting.{ManySetting}
-use Rattle.look_many.specs.declared.seeker.Seeker.{Seeker}
-use Rattle.look_many.specs.Mine.{driven}
-use Rattle.look_many.specs.ManyLooked.{IsWithinLimits, setting_for, seeds_for, max_lookups}
-use Rattle.look_many.specs.inner.Crowd.{Holding, NothingLeft, IsFresh, queries_of, asks_of, Stand}
-use Rattle.look_many.specs.inner.ManySteps.{IsReady, IsSeated}
-use Rattle.look_many.specs.inner.Going.{Begins}
-use Rattle.look_many.specs.inner.Seats.{IsSeekerFor, RolesFrom}
-use Rattle.look_many.proofs.Zips.{zip_length}
+use Rattle.look_many.specs.ManyLooked.{IsWithinLimits, setting_for, seeds_for}
+use Rattle.look_many.specs.inner.Seats.{IsFresh, IsSeekerFor, RolesFrom}
 
 -- ---- one lookup
 

@@ -8,23 +8,24 @@ use Rattle.kad_base.specs.declared.types.Event.TheVariants.{Now, Sent, Unsent, G
 use Rattle.lookup_core.specs.LookupSteps.{as_open}
 use Rattle.lookup_core.proofs.Gathering.{begun_keeping, gathers_of}
 use Rattle.node_serve.specs.Lasting.{end_of, is_over}
-use Rattle.look_many.specs.declared.follow.FollowUp.{FollowUp}
+use Rattle.lookup_crowd.specs.declared.due.FollowUp.{FollowUp}
+use Rattle.lookup_crowd.specs.declared.seeker.Seeker.{Seeker}
+use Rattle.lookup_crowd.specs.declared.seeker.Progress.{Progress}
+use Rattle.lookup_crowd.specs.declared.seeker.ManyFault.{ManyFault}
+use Rattle.lookup_crowd.specs.Mine.{Mine, Whose, driven}
+use Rattle.lookup_crowd.specs.Many.{Frame, Shown, Reading, nothing_read, MayWait, for_replies, for_follow_ups, for_others, Receives, IsTaken, IsAnsweredFor, Gives, GivesFrom, fresh, begun, ManyTellSoFar, ManyTell, EndsAtForeign}
+use Rattle.lookup_crowd.specs.inner.Crowd.{whose, queries_of, KeepsMine, framed, ManyShow, Stand}
+use Rattle.lookup_crowd.specs.inner.ManySteps.{ShowsEarly, ShowsForeign}
+use Rattle.lookup_crowd.proofs.Walking.{none_due}
+use Rattle.lookup_crowd.proofs.Telling.{none_shown}
 use Rattle.look_many.specs.declared.found.One.{One}
 use Rattle.look_many.specs.declared.job.Job.{Job}
-use Rattle.look_many.specs.declared.seeker.Seeker.{Seeker}
-use Rattle.look_many.specs.declared.seeker.Progress.{Progress}
-use Rattle.look_many.specs.declared.seeker.ManyFault.{ManyFault}
-use Rattle.look_many.specs.Mine.{Mine, Whose, driven}
-use Rattle.look_many.specs.Many.{Frame, Shown, Reading, nothing_read, MayWait, for_replies, for_follow_ups, for_others, Receives, IsTaken, IsAnsweredFor, Gives, GivesFrom, fresh, begun, ManyTellSoFar, ManyTell, EndsAtForeign}
 use Rattle.look_many.specs.ManyLooked.{AllGather, AreSent, ManyTold, TellsEarly}
-use Rattle.look_many.specs.inner.Crowd.{whose, queries_of, KeepsMine, IsFresh, framed, ManyShow, Stand, count_of}
-use Rattle.look_many.specs.inner.ManySteps.{HasEnough, ShowsEarly, ShowsForeign}
-use Rattle.look_many.specs.inner.Seats.{IsHanded}
+use Rattle.look_many.specs.inner.Seats.{IsFresh, count_of, IsHanded}
+use Rattle.look_many.specs.inner.Serving.{HasEnough}
 use Rattle.look_many.specs.Planned.{follows_read}
 use Rattle.look_many.specs.inner.Kept.{follows_kept}
 use Rattle.look_many.proofs.Planning.{IsOfKind, kept_read}
-use Rattle.look_many.proofs.Walking.{none_due}
-use Rattle.look_many.proofs.Telling.{none_shown}
 
 -- ---- the beginning
 

@@ -15,27 +15,29 @@ use Rattle.lookup_core.proofs.Others.{none_on}
 use Rattle.node_serve.specs.declared.setting.ServeSetting.{ServeSetting}
 use Rattle.node_serve.specs.Sealing.{Tags}
 use Rattle.serve_crew.specs.Hands.{Hands}
-use Rattle.look_many.specs.declared.follow.FollowUp.{FollowUp}
+use Rattle.lookup_crowd.specs.declared.due.FollowUp.{FollowUp}
+use Rattle.lookup_crowd.specs.declared.seeker.Seeker.{Seeker}
+use Rattle.lookup_crowd.specs.declared.seeker.ManyFault.{ManyFault}
+use Rattle.lookup_crowd.specs.declared.seeker.ManyFault.TheVariants.{NoMemory, Strays}
+use Rattle.lookup_crowd.specs.Many.{Frame, nothing_read, and_then}
+use Rattle.lookup_crowd.specs.Errands.{drawn_by}
+use Rattle.lookup_crowd.specs.inner.Crowd.{Holding, IsLegal, NoneAsks, NothingLeft, queries_of, ManyShow, Stand, stand, IsFrame, Advances}
+use Rattle.lookup_crowd.specs.inner.ManySteps.{IsReady, IsRunOut}
+use Rattle.lookup_crowd.specs.inner.Going.{Lives, Goes, HaveGone, AreOver, EndGoing}
+use Rattle.lookup_crowd.proofs.Lists.{none_front, none_back}
+use Rattle.lookup_crowd.proofs.Hosting.{ran_then, ran_on_none}
+use Rattle.lookup_crowd.proofs.Zips.{zip_weaker, zip_then, zip_right}
+use Rattle.lookup_crowd.proofs.Living.{lives_then, goes_then}
+use Rattle.lookup_crowd.proofs.Gone.{each_driven, each_lives, hands_then}
 use Rattle.look_many.specs.declared.job.Job.{Job}
-use Rattle.look_many.specs.declared.seeker.Seeker.{Seeker}
-use Rattle.look_many.specs.declared.seeker.ManyFault.{ManyFault}
-use Rattle.look_many.specs.declared.seeker.ManyFault.TheVariants.{NoMemory, Strays}
-use Rattle.look_many.specs.Many.{Frame, nothing_read, and_then}
-use Rattle.look_many.specs.ManyLooked.{drawn_by}
-use Rattle.look_many.specs.inner.Crowd.{Holding, IsLegal, NoneAsks, NothingLeft, queries_of, ManyShow, Stand, stand, IsFrame, Advances}
-use Rattle.look_many.specs.inner.ManySteps.{HasEnough, IsReady, IsRunOut, MayServe}
+use Rattle.look_many.specs.inner.Serving.{HasEnough, MayServe}
 use Rattle.look_many.specs.inner.Following.{Says, EndsSaying}
-use Rattle.look_many.specs.inner.Going.{Lives, Goes, HaveGone, AreOver, EndGoing, WentWhole, EndsWhole, SinceBegun}
+use Rattle.look_many.specs.inner.Going.{WentWhole, EndsWhole, SinceBegun}
 use Rattle.look_many.specs.inner.Kept.{follows_kept}
 use Rattle.look_many.proofs.Planning.{follows_still}
-use Rattle.look_many.proofs.Lists.{none_front, none_back}
 use Rattle.look_many.proofs.Following.{drawn_then as drawn_both}
-use Rattle.look_many.proofs.Hosting.{ran_then, ran_on_none}
 use Rattle.look_many.proofs.ServingOn.{stays_same}
 use Rattle.look_many.proofs.Whole.{goes_on_with}
-use Rattle.look_many.proofs.Zips.{zip_weaker, zip_then, zip_right}
-use Rattle.look_many.proofs.Living.{lives_then, goes_then}
-use Rattle.look_many.proofs.Gone.{each_driven, each_lives, hands_then}
 
 -- ---- where all are over
 

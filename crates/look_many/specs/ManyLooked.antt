@@ -17,7 +17,6 @@ use Rattle.kad_distance.specs.KClosest.{k_closest}
 use Rattle.id_puzzles.specs.Drawn.{WordsState}
 use Rattle.claim_book.specs.declared.types.Setting.{Setting}
 use Rattle.claim_book.specs.declared.types.Entry.{Entry}
-use Rattle.claim_book.specs.declared.types.Entry.TheVariants.{Note}
 use Rattle.claim_book.specs.Calls.{Counted}
 use Rattle.claim_book.specs.Journal.{seeds}
 use Rattle.claim_book.specs.Legal.{Legal, seeded}
@@ -27,8 +26,7 @@ use Rattle.claim_book.specs.RunOut.{RunOut}
 use Rattle.contact_table.specs.TableState.{TableState}
 use Rattle.contact_table.specs.TableStep.{contacts_of}
 use Rattle.contact_table.specs.Told.{calls_in, seen_calls}
-use Rattle.contact_table.specs.declared.calls.TableCall.TheVariants.{Closest, Failed}
-use Rattle.contact_table.specs.declared.calls.TableReply.{TableReply}
+use Rattle.contact_table.specs.declared.calls.TableCall.TheVariants.{Closest}
 use Rattle.contact_table.specs.declared.calls.TableReply.TheVariants.{List as Listed}
 use Rattle.lookup_core.specs.declared.quest.AskKind.TheVariants.{FindNode}
 use Rattle.lookup_core.specs.declared.quest.Quest.{Quest}
@@ -40,21 +38,18 @@ use Rattle.node_serve.specs.declared.setting.ServeSetting.{ServeSetting}
 use Rattle.node_serve.specs.Calls.{Did, on_table}
 use Rattle.node_serve.specs.Sealing.{Tags}
 use Rattle.serve_crew.specs.Runs.{Ran, HadAllMemory, AreCalls, AreFirstCalls}
-use Rattle.look_many.specs.declared.seeker.ManyFault.{ManyFault}
-use Rattle.look_many.specs.declared.seeker.ManyFault.TheVariants.{LinkFault, Strays, NoMemory}
-use Rattle.look_many.specs.declared.follow.FollowUp.{FollowUp}
+use Rattle.lookup_crowd.specs.declared.seeker.ManyFault.{ManyFault}
+use Rattle.lookup_crowd.specs.declared.seeker.ManyFault.TheVariants.{LinkFault, Strays, NoMemory}
+use Rattle.lookup_crowd.specs.declared.due.FollowUp.{FollowUp}
+use Rattle.lookup_crowd.specs.Mine.{Mine, Whose}
+use Rattle.lookup_crowd.specs.Many.{Frame, Reading, Shown, ManyTell, ManyTellSoFar, EndsAtForeign}
+use Rattle.lookup_crowd.specs.Errands.{noted, drawn_by, Errand, did_of, answer_in, loss_in}
 use Rattle.look_many.specs.declared.found.ManySetting.{ManySetting}
 use Rattle.look_many.specs.declared.found.One.{One}
 use Rattle.look_many.specs.declared.found.Many.{Many}
 use Rattle.look_many.specs.declared.job.Job.{Job}
 use Rattle.look_many.specs.Job.{target_of, kind_of}
-use Rattle.look_many.specs.Mine.{Mine, Whose}
-use Rattle.look_many.specs.Many.{Frame, Reading, Shown, ManyTell, ManyTellSoFar, EndsAtForeign}
 use Rattle.look_many.specs.Planned.{follow_ups, follows_read}
-
--- the most lookups at the same time
-abbrev pub max_lookups : ℕ
-max_lookups = 16
 
 -- the setting is within the limits
 pub record IsWithinLimits (setting : ManySetting) : Type 0 where
@@ -63,23 +58,16 @@ pub record IsWithinLimits (setting : ManySetting) : Type 0 where
   pub some_query : 1 ≤ setting.alpha
   pub few_queries : setting.alpha ≤ max_alpha
 
--- the contacts that a journal notes as having answered
-abbrev pub note_of : Entry → List Contact
-note_of (Note p c) = c ∷ []
-note_of other = []
-
-abbrev pub noted : List Entry → List Contact
-noted J = flat_map note_of J
-
 -- ---- each lookup
 
 -- what its book is set to
 abbrev pub setting_for : ServeSetting → ManySetting → Job → Setting
 setting_for server setting job = record { own = server.own; target = target_of job; k = server.k; paths = setting.paths; alpha = setting.alpha; policy = server.policy; per_address = setting.per_address }
 
--- what it asks, and what it believes: the node answers others, so it isn't read-only (BEP 43)
+-- what it asks, and what it believes: the node answers others, so it isn't read-only (BEP 43), and brings the proof of its
+-- identifier, if it has one
 abbrev pub quest_for : ServeSetting → ManySetting → Job → Quest
-quest_for server setting job = record { own = server.own; target = target_of job; policy = server.policy; kind = kind_of job; family = Four; timeout = setting.timeout; sealed = server.sealed; read_only = false }
+quest_for server setting job = record { own = server.own; target = target_of job; policy = server.policy; kind = kind_of job; family = Four; timeout = setting.timeout; sealed = server.sealed; read_only = false; proof = server.proof }
 
 -- the contacts that it begins with: the k closest of the table (Kademlia, 2002, section 2.3)
 abbrev pub seeds_for : ServeSetting → TableState → Job → List Contact
@@ -121,23 +109,6 @@ frame_for accepts tags server words lasting follows = record { accepts = accepts
 abbrev pub seeks : ServeSetting → TableState → Job → Did
 seeks server table job = on_table (Closest (target_of job) server.k) (Listed (seeds_for server table job))
 
--- What the node did beside: a call for a foreign datagram, or one that tells the table whom a lookup lost, with its reply.
-pub data Errand : Type 0 where
-  answering : Did → Errand
-  losing : Contact → TableReply → Errand
-
-abbrev pub did_of : Errand → Did
-did_of (answering did) = did
-did_of (losing c reply) = on_table (Failed c) reply
-
-abbrev pub answer_in : Errand → List Did
-answer_in (answering did) = did ∷ []
-answer_in (losing c reply) = []
-
-abbrev pub loss_in : Errand → List Contact
-loss_in (answering did) = []
-loss_in (losing c reply) = c ∷ []
-
 -- all calls of the driver: first those for the seeds, in order; then, in some order, those that the foreign datagrams made and one
 -- for each contact that was lost by its deadline, both as the events are read
 abbrev pub driver_calls : ServeSetting → TableState → List Job → List Errand → List Did
@@ -174,10 +145,6 @@ pub record ManyTold (f : Frame) (ws : List Whose) (read : Reading) (ones : List 
   pub received_are : received ≡ tell.end.got
   pub replied_are : replied ≡ tell.end.replied
   pub sent_are : AreSent read.told 0 ones
-
--- a word for each query, follow-ups too
-abbrev pub drawn_by : WordsState → List ℕ → WordsState
-drawn_by words owners = record words { place = words.place + length owners }
 
 abbrev pub journals_of : List One → List (List Entry)
 journals_of ones = map (λ one. one.journal) ones

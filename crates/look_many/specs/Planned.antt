@@ -6,11 +6,11 @@ use Rattle.kad_base.specs.declared.types.Id.{Id}
 use Rattle.claim_book.specs.Result.{result_of}
 use Rattle.lookup_core.specs.Gathered.{token_of}
 use Rattle.follow_ups.specs.declared.announce.Announcement.{Announcement}
-use Rattle.look_many.specs.declared.follow.FollowUp.{FollowUp}
+use Rattle.lookup_crowd.specs.declared.due.FollowUp.{FollowUp}
+use Rattle.lookup_crowd.specs.Mine.{Mine, Whose}
 use Rattle.look_many.specs.declared.found.One.{One}
 use Rattle.look_many.specs.declared.job.Job.{Job}
 use Rattle.look_many.specs.Job.{owed_for}
-use Rattle.look_many.specs.Mine.{Mine, Whose}
 
 -- what follows the lookup of that number
 abbrev pub by : ℕ → Announcement → FollowUp

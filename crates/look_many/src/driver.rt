@@ -8,27 +8,25 @@ ghost use Rattle.kad_base.specs.Outside.{Rose};
 ghost use Rattle.turn_book.specs.Turns.{fresh, AreAll};
 ghost use Rattle.contact_table.specs.TableStep.{contacts_of};
 ghost use Rattle.node_serve.specs.Calls.{IsSetting};
-ghost use Rattle.serve_crew.specs.Hands.{SameHands};
+ghost use Rattle.serve_crew.specs.Hands.{SameHands, hands};
+ghost use Rattle.lookup_crowd.specs.Errands.{max_lookups};
+ghost use Rattle.lookup_crowd.specs.inner.Crowd.{LosesMore, stand};
+ghost use Rattle.lookup_crowd.specs.inner.ManySteps.{IsOfDesk, IsRunOut, IsSeated};
+ghost use Rattle.lookup_crowd.specs.inner.Going.{Begins, SameSeats};
 ghost use Rattle.look_many.specs.Job.{MaySayOf};
-ghost use Rattle.look_many.specs.ManyLooked.{CountsUnsent, IsWithinLimits, ManyLooked, ManyStopped, journals_of, max_lookups};
-ghost use Rattle.look_many.specs.inner.Crowd.{LosesMore, stand};
-ghost use Rattle.look_many.specs.inner.ManySteps.{IsOfDesk, IsRunOut, IsSeated};
+ghost use Rattle.look_many.specs.ManyLooked.{CountsUnsent, IsWithinLimits, ManyLooked, ManyStopped, journals_of};
 ghost use Rattle.look_many.specs.inner.Following.{CarriesOf};
 ghost use Rattle.look_many.specs.inner.Kept.{follows_kept};
-ghost use Rattle.look_many.specs.inner.Going.{Begins, EndsWhole, SameSeats, WentWhole};
-ghost use Rattle.look_many.specs.inner.Seats.{IsBookFor, rows};
+ghost use Rattle.look_many.specs.inner.Going.{EndsWhole, WentWhole};
+ghost use Rattle.look_many.specs.inner.Seats.{AreBack, IsAlone, IsBookFor, IsSeekerFor, RolesFrom, done_of, rows};
 ghost use Rattle.look_many.specs.inner.Ends.{FoundBack, StoppedBack, task};
 
 use crate::finish::{Done, finish_all, gather};
-use crate::follow::{FollowUp, follow_all};
+use crate::follow::follow_all;
 use crate::found::{Many, ManySetting};
-use crate::host::Desk;
 use crate::job::Job;
-use crate::legal::all_legal;
 use crate::opening::{next_pass, open_books, seat_all, stack_up};
 use crate::plan::plan;
-use crate::rounds::go_rounds;
-use crate::seeker::{ManyFault, Progress, Seeker};
 use crate::serving::serve_on;
 use claim_book::Book;
 use contact_table::Table;
@@ -36,6 +34,7 @@ use id_puzzles::Words;
 use item_store::Items;
 use kad_base::limits::RECEIVE_ROOM;
 use kad_base::{Link, List, NoMemory, Numbers, Serial};
+use lookup_crowd::{Desk, FollowUp, ManyFault, Progress, Seeker, all_legal, go_rounds};
 use node_serve::{Lasting, ServeSetting, end_of};
 use path_worker::PacedCheck;
 use peer_store::Peers;
@@ -219,6 +218,98 @@ fn only_pass<S: Serial>(turn: &Turn<S>, row: &mut Passes<S>) -> Pass<S>
     pass
 }
 
+/// Makes the lookups and the node that serves of the passes of three turns.
+fn seat(
+    alloc: Global,
+    desk: &Desk,
+    setting: &ManySetting,
+    jobs: &[Job],
+    table_row: &mut Passes<Table>,
+    peers_row: &mut Passes<Peers>,
+    items_row: &mut Passes<Items>,
+    room: &mut Room,
+) -> ServeWorker
+    requires books { AllZip (IsBookFor desk.now.setting.now setting.now desk.now.table.now.start) jobs.now
+        (reverse room.old.books.items) }
+    requires no_seekers { room.old.seekers.items ≡ [] }
+    requires seeker_room { length jobs.now ≤ vec_capacity room.old.seekers }
+    requires no_stack { room.old.stack.items ≡ [] }
+    requires stack_room { length jobs.now + 1 ≤ vec_capacity room.old.stack }
+    requires tables { table_row.old.passes ≡ map (fresh desk.now.table.now.id) (range_with_len 0 (length jobs.now + 1)) }
+    requires peers { peers_row.old.passes ≡ fresh desk.now.peers.now.id 0 ∷ [] }
+    requires items { items_row.old.passes ≡ fresh desk.now.items.now.id 0 ∷ [] }
+    ensures host { result ≡ hands (fresh desk.now.table.now.id 0) (fresh desk.now.peers.now.id 0)
+        (fresh desk.now.items.now.id 0) }
+    ensures seekers { AllZip (IsSeekerFor desk.now.setting.now setting.now desk.now.table.now.start) jobs.now
+        room.new.seekers.items }
+    ensures passes { map (λ k. k.pass) room.new.seekers.items ≡ map (fresh desk.now.table.now.id)
+        (range_with_len 1 (length jobs.now)) }
+    ensures done { room.new.done ≡ room.old.done }
+    ensures tables { table_row.new.passes ≡ [] }
+    ensures peers { peers_row.new.passes ≡ [] }
+    ensures items { items_row.new.passes ≡ [] }
+    ensures table_room { table_row.new.room ≡ table_row.old.room }
+    ensures peers_room { peers_row.new.room ≡ peers_row.old.room }
+    ensures items_room { items_row.new.room ≡ items_row.old.room }
+{
+    stack_up(table_row, &mut room.stack);
+    let table_pass = next_pass(&mut room.stack);
+    let peers_pass = only_pass(desk.peers, peers_row);
+    let items_pass = only_pass(desk.items, items_row);
+    let host = ServeWorker::new(alloc, table_pass, peers_pass, items_pass);
+    seat_all(
+        alloc,
+        desk.table,
+        &mut room.stack,
+        &mut room.books,
+        desk.setting,
+        setting,
+        jobs,
+        &mut room.seekers,
+    );
+    host
+}
+
+/// Puts all passes back, and keeps what is left of each lookup.
+fn put_back(
+    desk: &Desk,
+    host: ServeWorker,
+    seekers: Vec<Seeker>,
+    table_row: &mut Passes<Table>,
+    peers_row: &mut Passes<Peers>,
+    items_row: &mut Passes<Items>,
+    done: &mut Vec<Done>,
+)
+    requires own { IsOfDesk desk.now host }
+    requires alone { IsAlone host }
+    requires seated { AllByRecursion (IsSeated desk.now.table.now) seekers.items }
+    requires roles { RolesFrom 1 seekers.items }
+    requires table_roles { desk.now.table.now.roles ≡ length seekers.items + 1 }
+    requires peers_roles { desk.now.peers.now.roles ≡ 1 }
+    requires items_roles { desk.now.items.now.roles ≡ 1 }
+    requires no_tables { table_row.old.passes ≡ [] }
+    requires no_peers { peers_row.old.passes ≡ [] }
+    requires no_items { items_row.old.passes ≡ [] }
+    requires table_room { table_row.old.room ≡ length seekers.items + 1 }
+    requires peers_room { peers_row.old.room ≡ 1 }
+    requires items_room { items_row.old.room ≡ 1 }
+    requires none_done { done.old.items ≡ [] }
+    requires done_room { length seekers.items ≤ vec_capacity done.old }
+    ensures tables { AreAll desk.now.table.now table_row.new.passes }
+    ensures peers { AreAll desk.now.peers.now peers_row.new.passes }
+    ensures items { AreAll desk.now.items.now items_row.new.passes }
+    ensures back { AreBack (rows desk.now.table.now desk.now.peers.now desk.now.items.now
+        table_row.new.passes peers_row.new.passes items_row.new.passes) host seekers.items }
+    ensures done { done.new.items ≡ map done_of (reverse seekers.items) }
+{
+    let _ = desk;
+    let (table_pass, peers_pass, items_pass) = host.into_passes();
+    table_row.push(table_pass);
+    peers_row.push(peers_pass);
+    items_row.push(items_pass);
+    gather(table_row, seekers, done);
+}
+
 /// Makes the lookups and the node that serves of the passes of three turns, goes on with them, and puts all passes back.
 fn work<R: Threads + Wait + Sync, L: Link, C: PacedCheck + Sync, G: Seal + SealCheck>(
     rt: &R,
@@ -278,20 +369,8 @@ fn work<R: Threads + Wait + Sync, L: Link, C: PacedCheck + Sync, G: Seal + SealC
         → L.recv_faults link.new ≡ L.recv_faults link.old }
     ensures kept { L.kept link.new ≡ L.kept link.old }
 {
-    stack_up(table_row, &mut room.stack);
-    let table_pass = next_pass(&mut room.stack);
-    let peers_pass = only_pass(desk.peers, peers_row);
-    let items_pass = only_pass(desk.items, items_row);
-    let mut host = ServeWorker::new(alloc, table_pass, peers_pass, items_pass);
-    seat_all(
-        alloc,
-        desk.table,
-        &mut room.stack,
-        &mut room.books,
-        desk.setting,
-        setting,
-        jobs,
-        &mut room.seekers,
+    let mut host = seat(
+        alloc, desk, setting, jobs, table_row, peers_row, items_row, &mut room,
     );
     let began = link.now();
     let mut progress = Progress {
@@ -321,11 +400,15 @@ fn work<R: Threads + Wait + Sync, L: Link, C: PacedCheck + Sync, G: Seal + SealC
         check,
         seal,
     );
-    let (table_pass, peers_pass, items_pass) = host.into_passes();
-    table_row.push(table_pass);
-    peers_row.push(peers_pass);
-    items_row.push(items_pass);
-    gather(table_row, room.seekers, &mut room.done);
+    put_back(
+        desk,
+        host,
+        room.seekers,
+        table_row,
+        peers_row,
+        items_row,
+        &mut room.done,
+    );
     match ended {
         Ok(()) => {}
         Err(fault) => return Err(fault),

@@ -6,11 +6,11 @@ ghost use Rattle.look_many.specs.inner.Seats.{IsOutcome, IsOverBook, done_of};
 
 use crate::found::{One, Ones};
 use crate::opening::DRIVER;
-use crate::seeker::Seeker;
 use claim_book::{Book, BookCall, BookReply};
 use contact_table::Table;
 use kad_base::{List, NoMemory, Serial};
 use lookup_core::{Gathered, Lookup, in_order};
+use lookup_crowd::Seeker;
 use std::alloc::Global;
 use turn_book::Passes;
 

@@ -10,37 +10,26 @@ ghost use Rattle.kad_krpc.specs.Form.{form, IsWritableAsk};
 ghost use Rattle.node_serve.specs.Calls.{IsSetting};
 ghost use Rattle.node_serve.specs.Receives.{tried};
 ghost use Rattle.serve_crew.specs.Hands.{SameHands};
-ghost use Rattle.look_many.specs.Many.{follow_bytes};
-ghost use Rattle.look_many.specs.inner.Crowd.{SameSeat, stand};
-ghost use Rattle.look_many.specs.inner.ManySteps.{IsOfDesk, MayServe};
-ghost use Rattle.look_many.specs.inner.Following.{CarriesOf, EndsSaying, IsNext, Says};
+ghost use Rattle.lookup_crowd.specs.Many.{follow_bytes};
+ghost use Rattle.lookup_crowd.specs.inner.Crowd.{SameSeat, stand};
+ghost use Rattle.lookup_crowd.specs.inner.ManySteps.{IsOfDesk};
+ghost use Rattle.look_many.specs.inner.Serving.{MayServe};
+ghost use Rattle.look_many.specs.inner.Following.{CarriesOf, EndsSaying, Says};
 
-use crate::host::Desk;
-use crate::legal::all_legal;
-use crate::receive::receive_until;
-use crate::seeker::{ManyFault, Progress, Seeker};
 use id_puzzles::Words;
-use kad_base::{Addr, Link, List, NoMemory, put_bytes};
+use kad_base::{Addr, Link, List, NoMemory, Proof, put_bytes};
 use kad_krpc::{Ask, Message, encode};
+use lookup_crowd::{Desk, FollowUp, ManyFault, Progress, Seeker, all_legal, receive_until};
 use seal_tags::{Seal, SealCheck};
 use serve_crew::ServeWorker;
 use std::alloc::Global;
 use std::sync::Wait;
 
-/// A query that follows a lookup, as that a node be known as a peer (BEP 5), or that an item be kept (BEP 44): the number of
-/// the lookup, to whom it goes, and what is asked.
-#[derive(Debug, Drop, PartialEq, Eq)]
-pub struct FollowUp {
-    pub owner: u64,
-    pub to: Addr,
-    pub ask: Ask,
-}
-
 /// The query as a datagram whose transaction id is to be written yet, so that no word is drawn for a query for which there
-/// is no memory. The node answers others, so it isn't read-only (BEP 43).
-fn datagram(alloc: Global, ask: Ask) -> Result<Vec<u8>, NoMemory>
-    requires { IsWritableAsk ask }
-    ensures { IfOk result (λ bytes. bytes.items ≡ form (Message.Query (replicate 4 0) false ask)) }
+/// is no memory. The node answers others, so it isn't read-only (BEP 43), and brings the proof of its identifier, if it has one.
+fn datagram(alloc: Global, proof: Option<Proof>, ask: Ask) -> Result<Vec<u8>, NoMemory>
+    requires { IsWritableAsk proof ask }
+    ensures { IfOk result (λ bytes. bytes.items ≡ form (Message.Query (replicate 4 0) false proof ask)) }
 {
     let tx = match List::from_slice(alloc, &[0u8; 4]) {
         Ok(tx) => tx,
@@ -49,6 +38,7 @@ fn datagram(alloc: Global, ask: Ask) -> Result<Vec<u8>, NoMemory>
     let message = Message::Query {
         tx,
         read_only: false,
+        proof,
         ask,
     };
     match encode(alloc, &message) {
@@ -73,12 +63,13 @@ fn send_one<L: Link>(
     link: &mut L,
     words: &mut Words,
     to: Addr,
+    proof: Option<Proof>,
     ask: Ask,
 ) -> Result<bool, NoMemory>
-    requires carried { IsWritableAsk ask }
+    requires carried { IsWritableAsk proof ask }
     requires place { words.old.place < 2 ^ 60 }
     ensures ok { IfOk result (λ was_sent. Grows (L.told link.old) (L.told link.new)
-        (λ es. es ≡ tried was_sent to (follow_bytes (word words.old.seed words.old.place) ask) ∷ [])) }
+        (λ es. es ≡ tried was_sent to (follow_bytes proof (word words.old.seed words.old.place) ask) ∷ [])) }
     ensures drawn { OnOk result (words.new ≡ record words.old { place = words.old.place + 1 }) }
     ensures same_words { OnErr result (words.new ≡ words.old) }
     ensures same_told { OnErr result (L.told link.new ≡ L.told link.old) }
@@ -87,7 +78,7 @@ fn send_one<L: Link>(
     ensures send_faults { L.send_faults link.old ≤ L.send_faults link.new }
     ensures kept { L.kept link.new ≡ L.kept link.old }
 {
-    let mut bytes = match datagram(alloc, ask) {
+    let mut bytes = match datagram(alloc, proof, ask) {
         Ok(bytes) => bytes,
         Err(NoMemory) => return Err(NoMemory),
     };
@@ -117,13 +108,14 @@ fn say<L: Link>(
     words: &mut Words,
     owners: &mut Vec<u64>,
     said: &mut Vec<u64>,
+    proof: Option<Proof>,
     follow: FollowUp,
 ) -> Result<bool, NoMemory>
     requires carried { CarriesOf follow }
     requires place { words.old.place < 2 ^ 60 }
     requires some { 0 < progress.old.unsaid }
     ensures ok { IfOk result (λ was_sent. Grows (L.told link.old) (L.told link.new)
-        (λ es. es ≡ tried was_sent follow.to (follow_bytes (word words.old.seed words.old.place) follow.ask) ∷ [])) }
+        (λ es. es ≡ tried was_sent follow.to (follow_bytes proof (word words.old.seed words.old.place) follow.ask) ∷ [])) }
     ensures drawn { OnOk result (words.new ≡ record words.old { place = words.old.place + 1 }) }
     ensures owners { OnOk result (owners.new.items ≡ owners.old.items ++ follow.owner ∷ []) }
     ensures said { IfOk result (λ was_sent. said.new.items
@@ -144,7 +136,7 @@ fn say<L: Link>(
         return Err(NoMemory);
     }
     let FollowUp { owner, to, ask } = follow;
-    match send_one(alloc, link, words, to, ask) {
+    match send_one(alloc, link, words, to, proof, ask) {
         Ok(true) => {
             owners.push_reserved(owner);
             said.push_reserved(owner);
@@ -160,72 +152,6 @@ fn say<L: Link>(
     }
 }
 
-/// Sends a follow-up, and makes one receive call behind it, which waits for nothing: what came is answered.
-fn follow_one<R: Wait, L: Link, G: Seal + SealCheck>(
-    rt: &R,
-    alloc: Global,
-    link: &mut L,
-    desk: &Desk,
-    host: &mut ServeWorker,
-    seekers: &mut [Seeker],
-    progress: &mut Progress,
-    words: &mut Words,
-    owners: &mut Vec<u64>,
-    said: &mut Vec<u64>,
-    seal: &G,
-    follow: FollowUp,
-    buf: &mut [u8],
-    out: &mut [u8; 4096],
-) -> Result<(), ManyFault>
-    requires setting { IsSetting desk.now.setting.now }
-    requires own { IsOfDesk desk.now host.old }
-    requires may { MayServe seekers.old progress.old }
-    requires some { 0 < progress.old.unsaid }
-    requires carried { CarriesOf follow }
-    requires place { words.old.place < 2 ^ 60 }
-    requires room { length buf.old ≡ max_datagram + 1 }
-    requires moment { L.moment link.old ≡ progress.old.moment }
-    ensures same { SameHands host.old host.new }
-    ensures len { length seekers.new ≡ length seekers.old }
-    ensures seats { AllZip SameSeat seekers.old seekers.new }
-    ensures says { OnOk result ((follows : List FollowUp) → IsNext follows progress.old follow
-        → Says follows (G.accepted seal.now) (G.tag_of seal.now) desk.now.setting.now
-        (stand seekers.old progress.old words.old host.old (L.told link.old))
-        (stand seekers.new progress.new words.new host.new (L.told link.new))
-        owners.old.items owners.new.items said.old.items said.new.items) }
-    ensures may { OnOk result (MayServe seekers.new progress.new) }
-    ensures unsaid { OnOk result (progress.new.unsaid ≡ progress.old.unsaid - 1) }
-    ensures place { OnOk result (words.new.place ≡ words.old.place + 1) }
-    ensures moment { OnOk result (L.moment link.new ≡ progress.new.moment) }
-    ensures stops { IfErr result (λ fault. (follows : List FollowUp) → IsNext follows progress.old follow
-        → EndsSaying fault follows (G.accepted seal.now) (G.tag_of seal.now) desk.now.setting.now
-        (stand seekers.old progress.old words.old host.old (L.told link.old)) words.new host.new
-        (L.told link.new)) }
-    ensures strays { ¬ IsErrOf result ManyFault.Strays }
-    ensures link { IsErrOf result ManyFault.LinkFault
-        → Rose (L.recv_faults link.old) (L.recv_faults link.new) }
-    ensures last { IsErrOf result ManyFault.LinkFault
-        → FailsLast L.told L.recv_faults link.old link.new }
-    ensures recv_faults { L.recv_faults link.old ≤ L.recv_faults link.new }
-    ensures send_faults { L.send_faults link.old ≤ L.send_faults link.new }
-    ensures well { ¬ IsErrOf result ManyFault.LinkFault
-        → L.recv_faults link.new ≡ L.recv_faults link.old }
-    ensures kept { L.kept link.new ≡ L.kept link.old }
-{
-    all_legal(seekers);
-    match say(alloc, link, progress, words, owners, said, follow) {
-        Ok(_) => {}
-        Err(NoMemory) => return Err(ManyFault::NoMemory),
-    }
-    let until = progress.moment;
-    match receive_until(
-        rt, alloc, link, desk, host, seekers, progress, seal, false, until, buf, out,
-    ) {
-        Ok(()) => Ok(()),
-        Err(fault) => Err(fault),
-    }
-}
-
 /// The follow-ups as they are taken from, the first one last.
 fn last_first(plan: List<FollowUp>) -> Vec<FollowUp>
     ensures { reverse result.items ≡ plan }
@@ -235,7 +161,8 @@ fn last_first(plan: List<FollowUp>) -> Vec<FollowUp>
     left
 }
 
-/// Sends all follow-ups in order, where all lookups are over. What comes meanwhile is answered.
+/// Sends all follow-ups in order, where all lookups are over, and makes one receive call behind each, which waits for nothing:
+/// what came is answered.
 pub(crate) fn follow_all<R: Wait, L: Link, G: Seal + SealCheck>(
     rt: &R,
     alloc: Global,
@@ -286,9 +213,23 @@ pub(crate) fn follow_all<R: Wait, L: Link, G: Seal + SealCheck>(
 {
     let mut left = last_first(plan);
     'following: while let Some(follow) = left.pop() {
-        match follow_one(
-            rt, alloc, link, desk, host, seekers, progress, words, owners, said, seal, follow, buf,
-            out,
+        all_legal(seekers);
+        match say(
+            alloc,
+            link,
+            progress,
+            words,
+            owners,
+            said,
+            desk.setting.proof,
+            follow,
+        ) {
+            Ok(_) => {}
+            Err(NoMemory) => return Err(ManyFault::NoMemory),
+        }
+        let until = progress.moment;
+        match receive_until(
+            rt, alloc, link, desk, host, seekers, progress, seal, false, until, buf, out,
         ) {
             Ok(()) => {}
             Err(fault) => return Err(fault),

@@ -9,11 +9,11 @@ ghost use Rattle.look_many.specs.inner.Seats.{IsBookFor, IsSeekerFor};
 
 use crate::found::ManySetting;
 use crate::job::Job;
-use crate::seeker::Seeker;
 use claim_book::{Book, Setting};
 use contact_table::{Table, TableCall, TableReply};
 use kad_base::{Contacts, Family, NoMemory, Serial};
 use lookup_core::{Lookup, Quest, nothing};
+use lookup_crowd::Seeker;
 use node_serve::ServeSetting;
 use std::alloc::Global;
 use std::hash::RandomState;
@@ -50,6 +50,7 @@ fn quest_of(server: &ServeSetting, setting: &ManySetting, job: &Job) -> Quest
         timeout: setting.timeout,
         sealed: server.sealed,
         read_only: false,
+        proof: server.proof,
     }
 }
 
@@ -67,6 +68,7 @@ fn seeds_of(table: &mut Table, server: &ServeSetting, job: &Job) -> Result<Conta
         TableReply::NoMemory => Err(NoMemory),
         TableReply::Seen { .. } => unreachable!(),
         TableReply::Gone { .. } => unreachable!(),
+        TableReply::Reports { .. } => unreachable!(),
         TableReply::Crowded => unreachable!(),
     }
 }

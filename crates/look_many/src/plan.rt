@@ -3,20 +3,19 @@
 ghost use Rattle.std.specs.Prelude.{◌≡◌, ◌++◌, ◌<◌, length, map, reverse, IfOk, OnOk};
 ghost use Rattle.std.specs.List.{AllByRecursion};
 ghost use Rattle.claim_book.specs.Result.{result_of};
+ghost use Rattle.lookup_crowd.specs.inner.ManySteps.{IsRunOut};
 ghost use Rattle.look_many.specs.Job.{may_owe, owed_for};
 ghost use Rattle.look_many.specs.Planned.{by};
 ghost use Rattle.look_many.specs.inner.Kept.{follows_kept, owed_of};
-ghost use Rattle.look_many.specs.inner.ManySteps.{IsRunOut};
 ghost use Rattle.look_many.specs.inner.Seats.{IsOverBook};
 
-use crate::follow::FollowUp;
 use crate::job::Job;
 use crate::opening::DRIVER;
-use crate::seeker::Seeker;
 use claim_book::{Book, BookCall, BookReply};
 use follow_ups::{Announcement, Said, announcements};
 use kad_base::{Contact, Contacts, Id, List, NoMemory, Serial};
 use lookup_core::Token;
+use lookup_crowd::{FollowUp, Seeker};
 use std::alloc::Global;
 
 /// What the book found, where every path has run out. The book stays as it is.

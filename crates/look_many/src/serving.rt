@@ -7,14 +7,12 @@ ghost use Rattle.kad_base.specs.Outside.{Rose};
 ghost use Rattle.id_puzzles.specs.Drawn.{WordsState};
 ghost use Rattle.node_serve.specs.Calls.{IsSetting};
 ghost use Rattle.serve_crew.specs.Hands.{SameHands};
-ghost use Rattle.look_many.specs.inner.Crowd.{whose, SameSeat, Advances, stand};
-ghost use Rattle.look_many.specs.inner.ManySteps.{IsOfDesk, MayServe, EndsEarly, HasEnough, WantsMore};
+ghost use Rattle.lookup_crowd.specs.inner.Crowd.{whose, SameSeat, Advances, stand};
+ghost use Rattle.lookup_crowd.specs.inner.ManySteps.{IsOfDesk, EndsEarly};
+ghost use Rattle.look_many.specs.inner.Serving.{MayServe, HasEnough, WantsMore};
 
-use crate::host::Desk;
-use crate::legal::all_legal;
-use crate::receive::receive_until;
-use crate::seeker::{ManyFault, Progress, Seeker};
 use kad_base::Link;
+use lookup_crowd::{Desk, ManyFault, Progress, Seeker, all_legal, receive_until};
 use node_serve::{is_over, waits_to};
 use seal_tags::{Seal, SealCheck};
 use serve_crew::ServeWorker;
@@ -32,65 +30,8 @@ fn has_enough(progress: &Progress) -> bool
     is_over(progress.end, progress.moment)
 }
 
-/// Makes one receive call that waits for others than the lookups, a minute or to the end, and answers what came.
-fn serve_one<R: Wait, L: Link, G: Seal + SealCheck>(
-    rt: &R,
-    alloc: Global,
-    link: &mut L,
-    desk: &Desk,
-    host: &mut ServeWorker,
-    seekers: &mut [Seeker],
-    progress: &mut Progress,
-    seal: &G,
-    buf: &mut [u8],
-    out: &mut [u8; 4096],
-) -> Result<(), ManyFault>
-    requires setting { IsSetting desk.now.setting.now }
-    requires own { IsOfDesk desk.now host.old }
-    requires may { MayServe seekers.old progress.old }
-    requires more { WantsMore progress.old }
-    requires said { progress.old.unsaid ≡ 0 }
-    requires room { length buf.old ≡ max_datagram + 1 }
-    requires moment { L.moment link.old ≡ progress.old.moment }
-    ensures same { SameHands host.old host.new }
-    ensures len { length seekers.new ≡ length seekers.old }
-    ensures seats { AllZip SameSeat seekers.old seekers.new }
-    ensures goes { OnOk result ((words : WordsState) → Advances false [] (G.accepted seal.now)
-        (G.tag_of seal.now) desk.now.setting.now
-        (stand seekers.old progress.old words host.old (L.told link.old))
-        (stand seekers.new progress.new words host.new (L.told link.new))) }
-    ensures may { OnOk result (MayServe seekers.new progress.new) }
-    ensures said { OnOk result (progress.new.unsaid ≡ 0) }
-    ensures journals { OnOk result (map whose seekers.new ≡ map whose seekers.old) }
-    ensures gathered { OnOk result (map (λ k. k.gathered) seekers.new ≡ map (λ k. k.gathered) seekers.old) }
-    ensures left { OnOk result (progress.new.left ≡ progress.old.left - 1) }
-    ensures moment { OnOk result (L.moment link.new ≡ progress.new.moment) }
-    ensures stops { IfErr result (λ fault. (words : WordsState) → EndsEarly false fault
-        (G.accepted seal.now) (G.tag_of seal.now) desk.now.setting.now
-        (stand seekers.old progress.old words host.old (L.told link.old)) host.new (L.told link.new)) }
-    ensures strays { ¬ IsErrOf result ManyFault.Strays }
-    ensures link { IsErrOf result ManyFault.LinkFault
-        → Rose (L.recv_faults link.old) (L.recv_faults link.new) }
-    ensures last { IsErrOf result ManyFault.LinkFault
-        → FailsLast L.told L.recv_faults link.old link.new }
-    ensures recv_faults { L.recv_faults link.old ≤ L.recv_faults link.new }
-    ensures send_faults { L.send_faults link.old ≤ L.send_faults link.new }
-    ensures well { ¬ IsErrOf result ManyFault.LinkFault
-        → L.recv_faults link.new ≡ L.recv_faults link.old }
-    ensures kept { L.kept link.new ≡ L.kept link.old }
-{
-    all_legal(seekers);
-    let until = waits_to(progress.end, progress.moment);
-    match receive_until(
-        rt, alloc, link, desk, host, seekers, progress, seal, false, until, buf, out,
-    ) {
-        Ok(()) => Ok(()),
-        Err(fault) => Err(fault),
-    }
-}
-
-/// Serves on where all lookups are over, until as many receives were made as are wanted, or the end has come. However many
-/// datagrams come, that is no fault.
+/// Serves on where all lookups are over, until as many receives were made as are wanted, or the end has come: each of them waits
+/// a minute, or to the end, and what came is answered. However many datagrams come, that is no fault.
 pub(crate) fn serve_on<R: Wait, L: Link, G: Seal + SealCheck>(
     rt: &R,
     alloc: Global,
@@ -137,8 +78,10 @@ pub(crate) fn serve_on<R: Wait, L: Link, G: Seal + SealCheck>(
     ensures kept { L.kept link.new ≡ L.kept link.old }
 {
     'serving: while !has_enough(progress) {
-        match serve_one(
-            rt, alloc, link, desk, host, seekers, progress, seal, buf, out,
+        all_legal(seekers);
+        let until = waits_to(progress.end, progress.moment);
+        match receive_until(
+            rt, alloc, link, desk, host, seekers, progress, seal, false, until, buf, out,
         ) {
             Ok(()) => {}
             Err(fault) => return Err(fault),

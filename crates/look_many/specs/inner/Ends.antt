@@ -12,13 +12,13 @@ use Rattle.node_serve.specs.declared.setting.ServeSetting.{ServeSetting}
 use Rattle.node_serve.specs.Lasting.{end_of}
 use Rattle.node_serve.specs.Sealing.{Tags}
 use Rattle.serve_crew.specs.Hands.{Hands, SameHands, hands}
+use Rattle.lookup_crowd.specs.declared.seeker.Seeker.{Seeker}
+use Rattle.lookup_crowd.specs.declared.seeker.ManyFault.{ManyFault}
+use Rattle.lookup_crowd.specs.inner.Crowd.{Stand}
 use Rattle.look_many.specs.declared.found.ManySetting.{ManySetting}
 use Rattle.look_many.specs.declared.found.Many.{Many}
 use Rattle.look_many.specs.declared.job.Job.{Job}
-use Rattle.look_many.specs.declared.seeker.Seeker.{Seeker}
-use Rattle.look_many.specs.declared.seeker.ManyFault.{ManyFault}
 use Rattle.look_many.specs.ManyLooked.{AreSent}
-use Rattle.look_many.specs.inner.Crowd.{Stand}
 use Rattle.look_many.specs.inner.Going.{WentWhole, EndsWhole}
 use Rattle.look_many.specs.inner.Seats.{IsSeekerFor, IsDone, IsHanded, Rows, AreBack}
 

@@ -3,9 +3,9 @@ use Rattle.std.specs.Prelude.{ℕ, suc, List, [], ◌∷◌, ◌++◌, map}
 use Rattle.kad_base.specs.declared.types.Id.{Id}
 use Rattle.claim_book.specs.Result.{result_of}
 use Rattle.follow_ups.specs.declared.announce.Announcement.{Announcement}
-use Rattle.look_many.specs.declared.follow.FollowUp.{FollowUp}
+use Rattle.lookup_crowd.specs.declared.due.FollowUp.{FollowUp}
+use Rattle.lookup_crowd.specs.declared.seeker.Seeker.{Seeker}
 use Rattle.look_many.specs.declared.job.Job.{Job}
-use Rattle.look_many.specs.declared.seeker.Seeker.{Seeker}
 use Rattle.look_many.specs.Job.{owed_for}
 use Rattle.look_many.specs.Planned.{by}
 

@@ -1,5 +1,5 @@
 -- Where several lookups begin.
-use Rattle.std.specs.Prelude.{◌≡◌, ℕ, suc, ◌<◌, List, [], ◌∷◌, map, reverse}
+use Rattle.std.specs.Prelude.{◌≡◌, ℕ, suc, ◌<◌, List, [], ◌∷◌, length, map, reverse}
 use Rattle.claim_book.specs.Legal.{Legal, seeded}
 use Rattle.claim_book.specs.Calls.{Counted}
 use Rattle.claim_book.specs.Result.{result_of}
@@ -13,11 +13,13 @@ use Rattle.peer_store.specs.Peers.{PeersState}
 use Rattle.item_store.specs.Items.{ItemsState}
 use Rattle.serve_crew.specs.Hands.{Hands, TablePass, PeersPass, ItemsPass}
 use Rattle.node_serve.specs.declared.setting.ServeSetting.{ServeSetting}
+use Rattle.lookup_crowd.specs.declared.seeker.Seeker.{Seeker}
+use Rattle.lookup_crowd.specs.Mine.{driven}
+use Rattle.lookup_crowd.specs.inner.Crowd.{whose}
 use Rattle.look_many.specs.declared.found.ManySetting.{ManySetting}
 use Rattle.look_many.specs.declared.finish.Done.{Done}
 use Rattle.look_many.specs.declared.found.One.{One}
 use Rattle.look_many.specs.declared.job.Job.{Job}
-use Rattle.look_many.specs.declared.seeker.Seeker.{Seeker}
 use Rattle.look_many.specs.ManyLooked.{setting_for, quest_for, seeds_for}
 
 -- a book that begins with the closest contacts of the table
@@ -32,6 +34,16 @@ pub record IsSeekerFor (server : ServeSetting) (setting : ManySetting) (table : 
   pub quest : k.quest ≡ quest_for server setting job
   pub none_open : k.lookup.queries ≡ []
   pub bare : IsBare k.gathered
+
+-- a lookup of which no event told yet
+pub record IsFresh (k : Seeker) : Type 0 where
+  pub none_open : k.lookup.queries ≡ []
+  pub none_driven : driven k.lookup.book.journal ≡ []
+  pub bare : IsBare k.gathered
+
+-- how many lookups there are
+abbrev pub count_of : List Seeker → ℕ
+count_of ks = length (map whose ks)
 
 -- ---- where they end
 
@@ -89,3 +101,8 @@ pub record AreBack (r : Rows) (host : Hands) (seekers : List Seeker) : Type 0 wh
   pub driver_peers : host.peers.role ≡ 0
   pub driver_items : host.items.role ≡ 0
   pub roles : RolesFrom 1 seekers
+
+-- the roles of the node that serves at the turns over peers and items, which nobody else calls
+pub record IsAlone (host : Hands) : Type 0 where
+  pub peers : host.peers.role ≡ 0
+  pub items : host.items.role ≡ 0

@@ -1,19 +1,20 @@
 use Rattle.std.proofs.Common.{◌≡◌, ◌^◌, ◌<◌, ◌∙◌, List, [], length, rules, refl, subst, Err, ap, sym, arith}
 use Rattle.std.specs.Prelude.{IsErrOf}
-use Rattle.look_many.specs.declared.seeker.ManyFault.{ManyFault}
-use Rattle.look_many.specs.declared.seeker.ManyFault.TheVariants.{Strays, LinkFault}
-use Rattle.look_many.specs.declared.seeker.Progress.{Progress}
-use Rattle.look_many.specs.declared.seeker.Seeker.{Seeker}
-use Rattle.look_many.specs.inner.Crowd.{LosesMore, Stand, stand}
-use Rattle.look_many.specs.inner.ManySteps.{MayServe}
+use Rattle.lookup_crowd.specs.declared.seeker.ManyFault.{ManyFault}
+use Rattle.lookup_crowd.specs.declared.seeker.ManyFault.TheVariants.{Strays, LinkFault}
+use Rattle.lookup_crowd.specs.declared.seeker.Progress.{Progress}
+use Rattle.lookup_crowd.specs.declared.seeker.Seeker.{Seeker}
+use Rattle.lookup_crowd.specs.inner.Crowd.{LosesMore, Stand, stand}
+use Rattle.lookup_crowd.specs.inner.Going.{AreOver, HaveGone, SameSeats}
+use Rattle.lookup_crowd.proofs.Gone.{seats_of, seats_then}
+use Rattle.look_many.specs.inner.Serving.{MayServe}
 use Rattle.look_many.specs.inner.Following.{Says, EndsSaying}
-use Rattle.look_many.specs.inner.Going.{AreOver, HaveGone, SameSeats}
 use Rattle.look_many.specs.inner.Kept.{follows_kept}
-use Rattle.look_many.proofs.Gone.{seats_of, seats_then}
 use Rattle.look_many.proofs.Following.{says_served, ends_saying_after, ends_served}
 use Rattle.look_many.proofs.Wholly.{some_still, all_small, may_serve_on, place_on, went_whole, ends_rounds, ends_planning, ends_following, owing}
 use Rattle.kad_base.proofs.Failing.{fails_later}
-use Rattle.look_many.proofs.Losing.{loses_none, loses_then, lost_still}
+use Rattle.lookup_crowd.proofs.Losing.{loses_none, loses_then}
+use Rattle.look_many.proofs.Losing.{lost_still}
 use Rattle.look_many.proofs.driver.go.Goals as goal
 
 pub returns-in-Err-clause-ends : goal.returns-in-Err-clause-ends

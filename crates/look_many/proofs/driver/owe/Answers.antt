@@ -1,6 +1,6 @@
 use Rattle.std.proofs.Common.{List, length, subst, sym, ap, arith}
 use Rattle.std.specs.List.{AllByRecursion}
-use Rattle.look_many.specs.declared.follow.FollowUp.{FollowUp}
+use Rattle.lookup_crowd.specs.declared.due.FollowUp.{FollowUp}
 use Rattle.look_many.specs.inner.Following.{CarriesOf}
 use Rattle.look_many.proofs.Planning.{kept_written, kept_few}
 use Rattle.look_many.proofs.driver.owe.Goals as goal

@@ -1,10 +1,11 @@
-use Rattle.std.proofs.Common.{◌≡◌, ◌+◌, rules, refl, ap, ◌∙◌, arith, Err}
+use Rattle.std.proofs.Common.{◌≡◌, ◌+◌, rules, true, false, refl, ap, ◌∙◌, arith, Err}
 use Rattle.kad_base.proofs.Failing.{fails_later}
-use Rattle.look_many.specs.declared.seeker.ManyFault.TheVariants.{LinkFault}
-use Rattle.look_many.specs.inner.Crowd.{Stand, stand}
+use Rattle.id_puzzles.specs.Drawn.{WordsState}
 use Rattle.serve_crew.proofs.Growing.{same_none, same_more}
-use Rattle.look_many.proofs.Heard.{seats_then}
-use Rattle.look_many.proofs.Following.{says_none, says_then, ends_saying_after, left_first, left_some, left_carries, left_next, left_after}
+use Rattle.lookup_crowd.specs.declared.seeker.ManyFault.TheVariants.{LinkFault}
+use Rattle.lookup_crowd.specs.inner.Crowd.{Stand, stand}
+use Rattle.lookup_crowd.proofs.Heard.{seats_then}
+use Rattle.look_many.proofs.Following.{says_none, says_then, ends_saying_after, left_first, left_some, left_carries, left_next, left_after, may_follow, unsaid_after, says_one, ends_unsaid, ends_said}
 use Rattle.look_many.proofs.follow.follow_all.Goals as goal
 
 pub following-init : goal.following-init
@@ -21,47 +22,48 @@ following-init g c = record {
   kept = search rules;
 }
 
-pub follow_one-requires-clause-may : goal.follow_one-requires-clause-may
-follow_one-requires-clause-may g c = c.following.invariant.says.may
+pub say-requires-clause-some : goal.say-requires-clause-some
+say-requires-clause-some g c = left_some c.args.plan c.following.left.items c.pop.new.self.items c.in-Some.follow c.following.progress.unsaid c.following.invariant.left c.in-Some.ensures.items
 
-pub follow_one-requires-clause-some : goal.follow_one-requires-clause-some
-follow_one-requires-clause-some g c = left_some c.args.plan c.following.left.items c.pop.new.self.items c.in-Some.follow c.following.progress.unsaid c.following.invariant.left c.in-Some.ensures.items
+pub say-requires-clause-carried : goal.say-requires-clause-carried
+say-requires-clause-carried g c = left_carries c.args.plan c.following.left.items c.pop.new.self.items c.in-Some.follow c.following.progress.unsaid c.following.invariant.left c.in-Some.ensures.items
 
-pub follow_one-requires-clause-carried : goal.follow_one-requires-clause-carried
-follow_one-requires-clause-carried g c = left_carries c.args.plan c.following.left.items c.pop.new.self.items c.in-Some.follow c.following.progress.unsaid c.following.invariant.left c.in-Some.ensures.items
-
-pub follow_one-requires-clause-place : goal.follow_one-requires-clause-place
-follow_one-requires-clause-place g c =
+pub say-requires-clause-place : goal.say-requires-clause-place
+say-requires-clause-place g c =
     let some = left_some c.args.plan c.following.left.items c.pop.new.self.items c.in-Some.follow c.following.progress.unsaid c.following.invariant.left c.in-Some.ensures.items in
     let place = c.following.invariant.place in
     let room = c.requires.place in
     omega (arith, some, place, room)
 
+pub receive_until-requires-clause-may : goal.receive_until-requires-clause-may
+receive_until-requires-clause-may g c =
+    let some = left_some c.args.plan c.following.left.items c.pop.new.self.items c.in-Some.follow c.following.progress.unsaid c.following.invariant.left c.in-Some.ensures.items in
+    may_follow c.following.seekers c.following.progress c.say.new.progress _ c.following.invariant.says.may some c.in-Ok.ensures.progress refl
+
 pub following-preserved : goal.following-preserved
 following-preserved g c =
     let h = c.following.invariant in
-    let new = c.follow_one.new in
-    let r = c.in-Ok.ensures in
+    let s = c.in-Ok.ensures in
+    let new = c.receive_until.new in
+    let r = c.in-Ok-receive_until.ensures in
     let old : Stand = stand c.args.seekers.now c.args.progress.now c.args.words.now c.args.host.now (g.L.Link.told c.args.link.now) in
     let mid : Stand = stand c.following.seekers c.following.progress c.following.words c.following.host (g.L.Link.told c.following.link) in
-    let now : Stand = stand new.seekers new.progress new.words new.host (g.L.Link.told new.link) in
-    let plan = c.args.plan in
-    let left = c.following.left.items in
-    let rest = c.pop.new.self.items in
-    let follow = c.in-Some.follow in
-    let unsaid = c.following.progress.unsaid in
-    let is = c.in-Some.ensures.items in
-    let some = left_some plan left rest follow unsaid h.left is in
+    let now : Stand = stand new.seekers new.progress c.say.new.words new.host (g.L.Link.told new.link) in
+    let some = left_some c.args.plan c.following.left.items c.pop.new.self.items c.in-Some.follow c.following.progress.unsaid c.following.invariant.left c.in-Some.ensures.items in
+    let next = left_next c.args.plan c.following.left.items c.pop.new.self.items c.in-Some.follow c.following.progress.unsaid h.left c.in-Some.ensures.items c.following.progress refl in
+    let unsaid = unsaid_after c.following.seekers new.seekers c.following.progress c.say.new.progress new.progress s.progress r.received in
     record {
-      says = says_then plan (g.G.SealCheck.accepted c.args.seal.now) (g.G.Seal.tag_of c.args.seal.now) c.args.desk.now.setting.now old mid now _ _ _ _ _ _ h.says (r.says plan (left_next plan left rest follow unsaid h.left is c.following.progress refl));
-      left = left_after plan left rest follow unsaid h.left is new.progress.unsaid r.unsaid;
-      place = (let a = h.place in let b = r.place in let d = r.unsaid in omega (arith, a, b, d, some));
-      same = same_more c.args.host.now c.following.host new.host h.same c.follow_one.ensures.same;
+      says = says_then c.args.plan (g.G.SealCheck.accepted c.args.seal.now) (g.G.Seal.tag_of c.args.seal.now) c.args.desk.now.setting.now old mid now _ _ _ _ _ _ h.says
+          (says_one c.args.plan (g.G.SealCheck.accepted c.args.seal.now) (g.G.Seal.tag_of c.args.seal.now) c.args.desk.now.setting.now c.in-Some.follow _ c.following.seekers new.seekers c.following.progress c.say.new.progress new.progress c.following.words c.say.new.words c.following.host new.host
+          (g.L.Link.told c.following.link) (g.L.Link.told c.say.new.link) (g.L.Link.told new.link) c.following.owners.items c.say.new.owners.items c.following.said.items c.say.new.said.items h.says.may some next s.progress s.drawn s.ok s.owners s.said r.same r.received (r.goes c.say.new.words));
+      left = left_after c.args.plan c.following.left.items c.pop.new.self.items c.in-Some.follow c.following.progress.unsaid h.left c.in-Some.ensures.items new.progress.unsaid unsaid;
+      place = (let a = h.place in let b = ap (λ (w : WordsState). w.place) s.drawn in omega (arith, a, b, unsaid, some));
+      same = same_more c.args.host.now c.following.host new.host h.same r.same;
       room = search rules;
       moment = search rules;
-      len = c.follow_one.ensures.len ∙ h.len;
-      faults = c.follow_one.ensures.well (λ is. cc) ∙ h.faults;
-      sends = (let a = h.sends in let b = c.follow_one.ensures.send_faults in omega (arith, a, b));
+      len = r.len ∙ h.len;
+      faults = r.well (λ is. cc) ∙ c.say.ensures.recv_faults ∙ h.faults;
+      sends = (let a = h.sends in let b = c.say.ensures.send_faults in let d = r.send_faults in omega (arith, a, b, d));
       kept = search rules;
     }
 
@@ -72,15 +74,32 @@ pub returns-clause-seats : goal.returns-clause-seats
 returns-clause-seats g c = c.following.invariant.says.seats
 
 pub returns-in-Err-clause-seats : goal.returns-in-Err-clause-seats
-returns-in-Err-clause-seats g c = seats_then c.args.seekers.now c.following.seekers c.follow_one.new.seekers c.following.invariant.says.seats c.follow_one.ensures.seats
+returns-in-Err-clause-seats g c = c.following.invariant.says.seats
 
 pub returns-in-Err-clause-stops : goal.returns-in-Err-clause-stops
 returns-in-Err-clause-stops g c =
+    let old : Stand = stand c.args.seekers.now c.args.progress.now c.args.words.now c.args.host.now (g.L.Link.told c.args.link.now) in
+    let mid : Stand = stand c.following.seekers c.following.progress c.following.words c.following.host (g.L.Link.told c.following.link) in
+    ends_saying_after c.args.plan (g.G.SealCheck.accepted c.args.seal.now) (g.G.Seal.tag_of c.args.seal.now) c.args.desk.now.setting.now _ old mid _ _ _ _ _ _ _ c.following.invariant.says
+    (ends_unsaid c.args.plan (g.G.SealCheck.accepted c.args.seal.now) (g.G.Seal.tag_of c.args.seal.now) c.args.desk.now.setting.now c.following.seekers c.following.progress c.following.words c.say.new.words c.following.host (g.L.Link.told c.following.link) (g.L.Link.told c.say.new.link) c.all_legal.ensures c.in-Err.ensures.same_words c.in-Err.ensures.same_told)
+
+pub returns-in-Err-receive_until-clause-seats : goal.returns-in-Err-receive_until-clause-seats
+returns-in-Err-receive_until-clause-seats g c = seats_then c.args.seekers.now c.following.seekers c.receive_until.new.seekers c.following.invariant.says.seats c.receive_until.ensures.seats
+
+pub returns-in-Err-receive_until-clause-stops : goal.returns-in-Err-receive_until-clause-stops
+returns-in-Err-receive_until-clause-stops g c =
     let h = c.following.invariant in
+    let s = c.in-Ok.ensures in
+    let r = c.in-Err-receive_until.ensures in
     let old : Stand = stand c.args.seekers.now c.args.progress.now c.args.words.now c.args.host.now (g.L.Link.told c.args.link.now) in
     let mid : Stand = stand c.following.seekers c.following.progress c.following.words c.following.host (g.L.Link.told c.following.link) in
     let next = left_next c.args.plan c.following.left.items c.pop.new.self.items c.in-Some.follow c.following.progress.unsaid h.left c.in-Some.ensures.items c.following.progress refl in
-    ends_saying_after c.args.plan (g.G.SealCheck.accepted c.args.seal.now) (g.G.Seal.tag_of c.args.seal.now) c.args.desk.now.setting.now c.in-Err.fault old mid _ _ _ _ _ _ _ h.says (c.in-Err.ensures.stops c.args.plan next)
+    ends_saying_after c.args.plan (g.G.SealCheck.accepted c.args.seal.now) (g.G.Seal.tag_of c.args.seal.now) c.args.desk.now.setting.now c.in-Err-receive_until.fault old mid _ _ _ _ _ _ _ h.says
+    (ends_said c.args.plan (g.G.SealCheck.accepted c.args.seal.now) (g.G.Seal.tag_of c.args.seal.now) c.args.desk.now.setting.now c.in-Err-receive_until.fault c.in-Some.follow _ c.following.seekers c.following.progress c.say.new.progress c.following.words c.say.new.words c.following.host c.receive_until.new.host
+    (g.L.Link.told c.following.link) (g.L.Link.told c.say.new.link) (g.L.Link.told c.receive_until.new.link) h.says.may next s.progress s.drawn s.ok c.all_legal.ensures (r.stops c.say.new.words) r.ran_on)
 
-pub returns-in-Err-clause-last : goal.returns-in-Err-clause-last
-returns-in-Err-clause-last g c is = fails_later _ _ _ _ _ c.following.invariant.faults (c.in-Err.ensures.last (let fault : c.in-Err.fault ≡ LinkFault = cc in ap (λ x. Err x) fault))
+pub returns-in-Err-receive_until-clause-strays : goal.returns-in-Err-receive_until-clause-strays
+returns-in-Err-receive_until-clause-strays g c is = (let t : false ≡ true = c.in-Err-receive_until.ensures.busy is in absurd cc)
+
+pub returns-in-Err-receive_until-clause-last : goal.returns-in-Err-receive_until-clause-last
+returns-in-Err-receive_until-clause-last g c is = fails_later _ _ _ _ _ (c.say.ensures.recv_faults ∙ c.following.invariant.faults) (c.in-Err-receive_until.ensures.last (let fault : c.in-Err-receive_until.fault ≡ LinkFault = cc in ap (λ x. Err x) fault))

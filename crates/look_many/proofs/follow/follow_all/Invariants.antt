@@ -1,7 +1,7 @@
 use Rattle.std.proofs.Common.{◌≡◌, ◌+◌, ◌≤◌, length}
 use Rattle.kad_base.specs.Limits.{max_datagram}
 use Rattle.serve_crew.specs.Hands.{SameHands}
-use Rattle.look_many.specs.inner.Crowd.{stand}
+use Rattle.lookup_crowd.specs.inner.Crowd.{stand}
 use Rattle.look_many.specs.inner.Following.{Says}
 use Rattle.look_many.proofs.Following.{AreLeft}
 use Rattle.look_many.proofs.follow.follow_all.Given as goal

@@ -4,7 +4,7 @@ use Rattle.std.specs.List.{AllZip, range_with_len}
 use Rattle.std.proofs.lemmas.List.{take_more, map-append, length-append}
 use Rattle.std.proofs.lemmas.List.FromFn.{map-range_with_len_more}
 use Rattle.turn_book.specs.Turns.{fresh}
-use Rattle.look_many.specs.declared.seeker.Seeker.{Seeker}
+use Rattle.lookup_crowd.specs.declared.seeker.Seeker.{Seeker}
 use Rattle.look_many.specs.ManyLooked.{quest_for}
 use Rattle.look_many.specs.inner.Seats.{IsBookFor, IsSeekerFor}
 use Rattle.look_many.proofs.Seating.{zip_left, zip_next, zip_more, row_left, row_next, seeker_for}

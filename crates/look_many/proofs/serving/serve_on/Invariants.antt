@@ -3,8 +3,8 @@ use Rattle.std.specs.List.{AllZip}
 use Rattle.kad_base.specs.Limits.{max_datagram}
 use Rattle.id_puzzles.specs.Drawn.{WordsState}
 use Rattle.serve_crew.specs.Hands.{SameHands}
-use Rattle.look_many.specs.inner.Crowd.{whose, SameSeat, Advances, stand}
-use Rattle.look_many.specs.inner.ManySteps.{MayServe}
+use Rattle.lookup_crowd.specs.inner.Crowd.{whose, SameSeat, Advances, stand}
+use Rattle.look_many.specs.inner.Serving.{MayServe}
 use Rattle.look_many.proofs.serving.serve_on.Given as goal
 
 abbrev pub invariant-serving : goal.invariant-serving

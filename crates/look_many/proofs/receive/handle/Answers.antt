@@ -1,8 +1,0 @@
-use Rattle.std.proofs.Common.{refl}
-use Rattle.look_many.specs.inner.ManySteps.{is_taken}
-use Rattle.look_many.proofs.receive.handle.Goals as goal
-
-pub returns-in-Ok-true-clause-ok : goal.returns-in-Ok-true-clause-ok
-returns-in-Ok-true-clause-ok g c =
-    let takes = rw c.in-Ok-true.field-0-test at c.in-Ok-true.ensures.ok in
-    is_taken takes refl refl refl

@@ -1,9 +1,0 @@
-use Rattle.std.proofs.Common.{◌≡◌}
-use Rattle.look_many.proofs.Unsettled.{NoneHas}
-use Rattle.look_many.proofs.settle.book_has_some.Given as goal
-
-abbrev pub invariant-loop-path : goal.invariant-loop-path
-invariant-loop-path l = record {
-  same : l.book ≡ l.fn.book;
-  none : NoneHas l.path l.fn.book.journal;
-}

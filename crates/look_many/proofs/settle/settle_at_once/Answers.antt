@@ -1,6 +1,0 @@
-use denote.Param.Send.{sendable}
-use Rattle.look_many.proofs.Sending.{seeker_send}
-use Rattle.look_many.proofs.settle.settle_at_once.Goals as goal
-
-pub for_each_mut-requires-send-T : goal.for_each_mut-requires-send-T
-for_each_mut-requires-send-T g c κs within = search (sendable, seeker_send)

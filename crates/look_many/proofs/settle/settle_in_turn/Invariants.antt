@@ -1,5 +1,0 @@
-use Rattle.look_many.proofs.Settled.{SettlingTo}
-use Rattle.look_many.proofs.settle.settle_in_turn.Given as goal
-
-abbrev pub invariant-loop-i : goal.invariant-loop-i
-invariant-loop-i g l = SettlingTo l.i l.fn.seekers l.seekers

@@ -1,5 +1,0 @@
-use Rattle.look_many.proofs.Settling.{settles_by}
-use Rattle.look_many.proofs.settle.settle_lookup.Goals as goal
-
-pub returns : goal.returns
-returns g c = settles_by c.args.seeker.now c.settle_paths-seeker.new.seeker c.settle_paths-seeker.result c.settle_paths-seeker.ensures.some c.settle_paths-seeker.ensures.whole

@@ -1,5 +1,0 @@
-use Rattle.look_many.specs.inner.SettleSteps.{SettlesTo}
-use Rattle.look_many.proofs.settle.settle_paths.Given as goal
-
-abbrev pub invariant-loop-path : goal.invariant-loop-path
-invariant-loop-path g l = SettlesTo l.path l.fn.seeker l.seeker

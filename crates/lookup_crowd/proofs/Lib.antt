@@ -1,0 +1,20 @@
+pub mod Lists
+pub mod OneReceive
+pub mod Several
+pub mod Waiting
+pub mod Hosting
+pub mod Heard
+pub mod Losing
+pub mod Counting
+pub mod Walking
+pub mod Telling
+pub mod Rounding
+pub mod Asking
+pub mod AskingAll
+pub mod Settling
+pub mod Settled
+pub mod Unsettled
+mod Sending
+pub mod Zips
+pub mod Living
+pub mod Gone

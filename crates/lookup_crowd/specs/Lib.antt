@@ -1,0 +1,4 @@
+pub mod Mine
+pub mod Many
+pub mod Errands
+pub mod inner

@@ -1,0 +1,267 @@
+//! One receive call for all lookups, and what it gave.
+ghost use Rattle.std.specs.Prelude.{◌≡◌, ◌≤◌, ◌<◌, ◌+◌, ◌^◌, [], length, true, IfOk, IfErr, IfSome, OnOk, OnErr, IsErrOf};
+ghost use Rattle.std.specs.List.{AllByRecursion, AllZip};
+ghost use Rattle.kad_base.specs.Limits.{max_datagram, max_round_receives, max_strays};
+ghost use Rattle.kad_base.specs.Failing.{FailsLast};
+ghost use Rattle.kad_base.specs.Outside.{Grows, Rose};
+ghost use Rattle.id_puzzles.specs.Drawn.{WordsState};
+ghost use Rattle.node_serve.specs.Calls.{IsSetting};
+ghost use Rattle.serve_crew.specs.Hands.{SameHands};
+ghost use Rattle.lookup_crowd.specs.inner.Crowd.{Holding, SameSeat, Advances, stand};
+ghost use Rattle.lookup_crowd.specs.inner.ManySteps.{owed_in, IsOfDesk, Counts, Handles, Comes, Passes, Pays, after_paid, IsLastForeign, MayReceive, Received, Stops, EndsByForeign, RanOn};
+
+use crate::host::{Desk, answer, expire_all};
+use crate::seeker::{ManyFault, Progress, Seeker};
+use crate::take::take;
+use crate::wait::round_after;
+use kad_base::limits::MAX_STRAYS;
+use kad_base::{Addr, Came, Link, NoMemory};
+use seal_tags::{Seal, SealCheck};
+use serve_crew::ServeWorker;
+use std::alloc::Global;
+use std::sync::Wait;
+
+/// Counts a foreign datagram. While a query is open, the last that is taken is a fault.
+fn count_foreign(progress: &mut Progress, busy: bool) -> Result<(), ManyFault>
+    requires few { busy ≡ true → progress.old.foreign < max_strays }
+    requires room { progress.old.foreign + 1 < 2 ^ 64 }
+    ensures ok { OnOk result (Counts busy progress.old progress.new) }
+    ensures err { IfErr result (λ fault. (fault ≡ ManyFault.Strays) × (busy ≡ true)
+        × (progress.old.foreign + 1 ≡ max_strays)) }
+{
+    let foreign = progress.foreign + 1;
+    if busy && foreign == u64::from(MAX_STRAYS) {
+        return Err(ManyFault::Strays);
+    }
+    progress.foreign = foreign;
+    Ok(())
+}
+
+/// Hands the datagram to the first lookup that it is for. What is for none is counted and answered: how many bytes its
+/// reply has in front of `out`, where it is owed one.
+fn handle<R: Wait, G: Seal + SealCheck>(
+    rt: &R,
+    alloc: Global,
+    desk: &Desk,
+    host: &mut ServeWorker,
+    seekers: &mut [Seeker],
+    progress: &mut Progress,
+    seal: &G,
+    busy: bool,
+    from: Addr,
+    bytes: &[u8],
+    at: u64,
+    out: &mut [u8; 4096],
+) -> Result<Option<usize>, ManyFault>
+    requires setting { IsSetting desk.now.setting.now }
+    requires own { IsOfDesk desk.now host.old }
+    requires holds { AllByRecursion Holding seekers.old }
+    requires few { busy ≡ true → progress.old.foreign < max_strays }
+    requires room { progress.old.foreign + 1 < 2 ^ 64 }
+    ensures same { SameHands host.old host.new }
+    ensures len { length seekers.new ≡ length seekers.old }
+    ensures seats { AllZip SameSeat seekers.old seekers.new }
+    ensures ok { IfOk result (λ reply. Handles (G.accepted seal.now) (G.tag_of seal.now)
+        desk.now.setting.now busy from bytes.now at seekers.old seekers.new progress.old progress.new host.old
+        host.new (owed_in reply from out.new)) }
+    ensures short { IfOk result (λ reply. IfSome reply (λ n. n ≤ 4096)) }
+    ensures received { OnOk result (progress.new.received ≡ progress.old.received) }
+    ensures strays { IsErrOf result ManyFault.Strays
+        → IsLastForeign (G.accepted seal.now) from bytes.now busy seekers.old progress.old }
+    ensures link { ¬ IsErrOf result ManyFault.LinkFault }
+    ensures ran_on { OnErr result (RanOn host.old host.new) }
+{
+    match take(alloc, seekers, seal, from, bytes) {
+        Ok(true) => return Ok(None),
+        Ok(false) => {}
+        Err(NoMemory) => return Err(ManyFault::NoMemory),
+    }
+    match count_foreign(progress, busy) {
+        Ok(()) => {}
+        Err(fault) => return Err(fault),
+    }
+    match answer(rt, desk, host, seal, from, bytes, at, out) {
+        Ok(reply) => Ok(reply),
+        Err(NoMemory) => Err(ManyFault::NoMemory),
+    }
+}
+
+/// A datagram came at that moment, told with it: it is handled, and then all lookups lose who is overdue.
+fn came<R: Wait, G: Seal + SealCheck>(
+    rt: &R,
+    alloc: Global,
+    desk: &Desk,
+    host: &mut ServeWorker,
+    seekers: &mut [Seeker],
+    progress: &mut Progress,
+    seal: &G,
+    busy: bool,
+    from: Addr,
+    bytes: &[u8],
+    at: u64,
+    out: &mut [u8; 4096],
+) -> Result<Option<usize>, ManyFault>
+    requires setting { IsSetting desk.now.setting.now }
+    requires own { IsOfDesk desk.now host.old }
+    requires holds { AllByRecursion Holding seekers.old }
+    requires few { busy ≡ true → progress.old.foreign < max_strays }
+    requires room { progress.old.foreign + 1 < 2 ^ 64 }
+    requires few_receives { progress.old.receives < max_round_receives }
+    requires few_received { progress.old.received + 1 < 2 ^ 64 }
+    ensures same { SameHands host.old host.new }
+    ensures len { length seekers.new ≡ length seekers.old }
+    ensures seats { AllZip SameSeat seekers.old seekers.new }
+    ensures ok { IfOk result (λ reply. Comes (G.accepted seal.now) (G.tag_of seal.now)
+        desk.now.setting.now busy from bytes.now at seekers.old seekers.new progress.old progress.new host.old
+        host.new (owed_in reply from out.new)) }
+    ensures short { IfOk result (λ reply. IfSome reply (λ n. n ≤ 4096)) }
+    ensures strays { IsErrOf result ManyFault.Strays
+        → IsLastForeign (G.accepted seal.now) from bytes.now busy seekers.old progress.old }
+    ensures link { ¬ IsErrOf result ManyFault.LinkFault }
+    ensures ran_on { OnErr result (RanOn host.old host.new) }
+{
+    let reply = match handle(
+        rt, alloc, desk, host, seekers, progress, seal, busy, from, bytes, at, out,
+    ) {
+        Ok(reply) => reply,
+        Err(fault) => return Err(fault),
+    };
+    expire_all(rt, desk, host, seekers, at);
+    progress.moment = at;
+    progress.receives = round_after(progress.receives, seekers);
+    progress.left = progress.left.saturating_sub(1);
+    progress.received += 1;
+    Ok(reply)
+}
+
+/// No datagram came until that moment: all lookups lose who is overdue, and the round is over.
+fn none_came<R: Wait>(
+    rt: &R,
+    desk: &Desk,
+    host: &mut ServeWorker,
+    seekers: &mut [Seeker],
+    progress: &mut Progress,
+    at: u64,
+)
+    requires own { IsOfDesk desk.now host.old }
+    requires holds { AllByRecursion Holding seekers.old }
+    ensures same { SameHands host.old host.new }
+    ensures len { length seekers.new ≡ length seekers.old }
+    ensures passes { Passes at seekers.old seekers.new progress.old progress.new host.old host.new }
+{
+    expire_all(rt, desk, host, seekers, at);
+    progress.moment = at;
+    progress.receives = 0;
+    progress.left = progress.left.saturating_sub(1);
+}
+
+/// Sends the reply that a datagram is owed, if it is owed one: its first bytes of `out`. Whether it was sent.
+fn pay<L: Link>(link: &mut L, to: Addr, reply: Option<usize>, out: &[u8; 4096]) -> bool
+    requires { IfSome reply (λ n. n ≤ 4096) }
+    ensures pays { Grows (L.told link.old) (L.told link.new)
+        (Pays (owed_in reply to out.now) result) }
+    ensures moment { L.moment link.new ≡ L.moment link.old }
+    ensures recv_faults { L.recv_faults link.new ≡ L.recv_faults link.old }
+    ensures send_faults { L.send_faults link.old ≤ L.send_faults link.new }
+    ensures kept { L.kept link.new ≡ L.kept link.old }
+{
+    match reply {
+        Some(length) => match link.send(to, &out[..length]) {
+            Ok(()) => true,
+            Err(_) => false,
+        },
+        None => false,
+    }
+}
+
+/// Counts a reply that was sent.
+fn count_reply(progress: &mut Progress, was_sent: bool)
+    requires { progress.old.replied + 1 < 2 ^ 64 }
+    ensures { progress.new ≡ after_paid progress.old was_sent }
+{
+    if was_sent {
+        progress.replied += 1;
+    }
+}
+
+/// Makes one receive call for all lookups, until that moment, and handles what it gave; `busy` says whether a query of a
+/// lookup is open. A reply that a datagram is owed is sent at once. Whatever the events told of each lookup's journal they
+/// go on to tell.
+pub fn receive_until<R: Wait, L: Link, G: Seal + SealCheck>(
+    rt: &R,
+    alloc: Global,
+    link: &mut L,
+    desk: &Desk,
+    host: &mut ServeWorker,
+    seekers: &mut [Seeker],
+    progress: &mut Progress,
+    seal: &G,
+    busy: bool,
+    until: u64,
+    buf: &mut [u8],
+    out: &mut [u8; 4096],
+) -> Result<(), ManyFault>
+    requires setting { IsSetting desk.now.setting.now }
+    requires own { IsOfDesk desk.now host.old }
+    requires may { MayReceive seekers.old progress.old until busy }
+    requires room { length buf.old ≡ max_datagram + 1 }
+    requires moment { L.moment link.old ≡ progress.old.moment }
+    ensures same { SameHands host.old host.new }
+    ensures len { length seekers.new ≡ length seekers.old }
+    ensures seats { AllZip SameSeat seekers.old seekers.new }
+    ensures goes { OnOk result ((words : WordsState) → Advances busy [] (G.accepted seal.now)
+        (G.tag_of seal.now) desk.now.setting.now
+        (stand seekers.old progress.old words host.old (L.told link.old))
+        (stand seekers.new progress.new words host.new (L.told link.new))) }
+    ensures received { OnOk result (Received busy seekers.old seekers.new progress.old progress.new) }
+    ensures later { OnOk result (progress.old.moment ≤ progress.new.moment) }
+    ensures moment { OnOk result (L.moment link.new ≡ progress.new.moment) }
+    ensures stops { IfErr result (λ fault. (words : WordsState) → Stops busy fault
+        (G.accepted seal.now) (G.tag_of seal.now) desk.now.setting.now
+        (stand seekers.old progress.old words host.old (L.told link.old)) (L.told link.new)) }
+    ensures ran_on { OnErr result (RanOn host.old host.new) }
+    ensures strays { IsErrOf result ManyFault.Strays → (words : WordsState)
+        → EndsByForeign busy (G.accepted seal.now) (G.tag_of seal.now) desk.now.setting.now
+        (stand seekers.old progress.old words host.old (L.told link.old)) (L.told link.new) }
+    ensures busy { IsErrOf result ManyFault.Strays → busy ≡ true }
+    ensures link { IsErrOf result ManyFault.LinkFault
+        → Rose (L.recv_faults link.old) (L.recv_faults link.new) }
+    ensures last { IsErrOf result ManyFault.LinkFault
+        → FailsLast L.told L.recv_faults link.old link.new }
+    ensures recv_faults { L.recv_faults link.old ≤ L.recv_faults link.new }
+    ensures send_faults { L.send_faults link.old ≤ L.send_faults link.new }
+    ensures well { ¬ IsErrOf result ManyFault.LinkFault
+        → L.recv_faults link.new ≡ L.recv_faults link.old }
+    ensures kept { L.kept link.new ≡ L.kept link.old }
+{
+    match link.recv(buf, until) {
+        Ok(Came::Packet { from, len, at }) => {
+            match came(
+                rt,
+                alloc,
+                desk,
+                host,
+                seekers,
+                progress,
+                seal,
+                busy,
+                from,
+                &buf[..len],
+                at,
+                out,
+            ) {
+                Ok(reply) => {
+                    let was_sent = pay(link, from, reply, out);
+                    count_reply(progress, was_sent);
+                    Ok(())
+                }
+                Err(fault) => Err(fault),
+            }
+        }
+        Ok(Came::Quiet { at }) => {
+            none_came(rt, desk, host, seekers, progress, at);
+            Ok(())
+        }
+        Err(_) => Err(ManyFault::LinkFault),
+    }
+}
