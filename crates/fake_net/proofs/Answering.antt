@@ -27,7 +27,7 @@ use Rattle.fake_net.proofs.Numbered.{number_back}
 pub find_only : (bytes tx : List ℕ) (target : Id) (m : Message) → ((n : Message) → Says bytes n → ◌≡◌ {A = Step Message} (Ok m) (Ok n)) → SaysFindNode bytes tx target
     → find_node_of m ≡ Some (tx, target)
 find_only bytes tx target m only q =
-    let query = message.Query tx q.read_only (FindNode q.asker target q.want) in
+    let query = message.Query tx q.read_only q.proof (FindNode q.asker target q.want) in
     let same : m ≡ query = (let e = only query q.says in cc) in
     ap find_node_of same
 

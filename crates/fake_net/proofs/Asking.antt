@@ -14,7 +14,7 @@ use Rattle.fake_net.specs.Scripts.{SaysQuery, IsQuery, query_tx, Asks}
 pub read_only : (bytes tx : List ℕ) (m : Message) → ((n : Message) → Says bytes n → ◌≡◌ {A = Step Message} (Ok m) (Ok n)) → SaysQuery bytes tx
     → query_tx m ≡ Some tx
 read_only bytes tx m only q =
-    let query = message.Query tx q.read_only q.ask in
+    let query = message.Query tx q.read_only q.proof q.ask in
     let same : m ≡ query = (let e = only query q.says in cc) in
     ap query_tx same
 

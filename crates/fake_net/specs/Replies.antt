@@ -3,6 +3,7 @@
 use Rattle.std.specs.Prelude.{◌≡◌, ℕ, zero, suc, ◌+◌, ◌-◌, ◌/◌, ◌%◌, ◌^◌, ◌<◌, min, pos, Bool, cond, List, [], ◌∷◌, map, get_or, set, codes, bit_xor, Option, Some, None}
 use Rattle.std.specs.Borrow.{Bor}
 use Rattle.kad_base.specs.declared.types.Id.{Id}
+use Rattle.kad_base.specs.declared.types.Proof.{Proof}
 use Rattle.kad_base.specs.declared.types.Ip.TheVariants.{V4}
 use Rattle.kad_base.specs.declared.types.Addr.{Addr}
 use Rattle.kad_base.specs.declared.types.Contact.{Contact}
@@ -22,9 +23,10 @@ use Rattle.fake_net.specs.Network.{Network, numbers, id_of, address_of, is_hosti
 -- the bytes say a find_node query under the transaction id, for the target, whatever else it wants
 pub record SaysFindNode (bytes tx : List ℕ) (target : Id) : Type 0 where
   pub read_only : Bool
+  pub proof : Option Proof
   pub asker : Id
   pub want : Want
-  pub says : Says bytes (message.Query tx read_only (FindNode asker target want))
+  pub says : Says bytes (message.Query tx read_only proof (FindNode asker target want))
 
 -- the transaction id and the target of a find_node query
 abbrev pub asked_for : List ℕ → Ask → Option (List ℕ × Id)
@@ -37,7 +39,7 @@ asked_for tx (PutItem id token v mutable) = None
 asked_for tx (Other method) = None
 
 abbrev pub find_node_of : Message → Option (List ℕ × Id)
-find_node_of (message.Query tx read_only ask) = asked_for tx ask
+find_node_of (message.Query tx read_only proof ask) = asked_for tx ask
 find_node_of (message.Answer tx answer) = None
 find_node_of (message.Fault tx code text) = None
 

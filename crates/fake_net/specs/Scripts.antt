@@ -3,6 +3,7 @@
 use Rattle.std.specs.Prelude.{◌≡◌, ◌≢◌, ℕ, ◌+◌, ◌-◌, ◌^◌, ◌<◌, ◌≤◌, min, max, Bool, List, [], ◌∷◌, ◌++◌, length, take, drop, All, Any, Option, Some, None, slice_get, MatchOption}
 use Rattle.std.specs.List.{AllWithin}
 use Rattle.kad_base.specs.declared.types.Addr.{Addr}
+use Rattle.kad_base.specs.declared.types.Proof.{Proof}
 use Rattle.kad_base.specs.declared.types.Came.{Came}
 use Rattle.kad_base.specs.declared.types.Came.TheVariants.{Packet, Quiet}
 use Rattle.kad_base.specs.declared.types.Event.{Event}
@@ -52,8 +53,9 @@ pub record SameReceives (old new : Play) : Type 0 where
 -- the bytes say a query under the transaction id
 pub record SaysQuery (bytes tx : List ℕ) : Type 0 where
   pub read_only : Bool
+  pub proof : Option Proof
   pub ask : Ask
-  pub says : Says bytes (message.Query tx read_only ask)
+  pub says : Says bytes (message.Query tx read_only proof ask)
 
 -- the bytes say a query
 pub record IsQuery (bytes : List ℕ) : Type 0 where
@@ -62,7 +64,7 @@ pub record IsQuery (bytes : List ℕ) : Type 0 where
 
 -- the transaction id of a query
 abbrev pub query_tx : Message → Option (List ℕ)
-query_tx (message.Query tx read_only ask) = Some tx
+query_tx (message.Query tx read_only proof ask) = Some tx
 query_tx (message.Answer tx answer) = None
 query_tx (message.Fault tx code text) = None
 
@@ -122,7 +124,7 @@ Finds queries until script found = MatchOption found (NoneNext queries until scr
 
 -- the message under another transaction id
 abbrev pub under : List ℕ → Message → Message
-under tx (message.Query old read_only ask) = message.Query tx read_only ask
+under tx (message.Query old read_only proof ask) = message.Query tx read_only proof ask
 under tx (message.Answer old answer) = message.Answer tx answer
 under tx (message.Fault old code text) = message.Fault tx code text
 

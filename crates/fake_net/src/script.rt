@@ -204,9 +204,15 @@ fn under(alloc: Global, message: &Message, tx: &[u8]) -> Result<Message, NoMemor
 {
     let tx = List::from_slice(alloc, tx)?;
     match message {
-        Message::Query { read_only, ask, .. } => Ok(Message::Query {
+        Message::Query {
+            read_only,
+            proof,
+            ask,
+            ..
+        } => Ok(Message::Query {
             tx,
             read_only: *read_only,
+            proof: *proof,
             ask: copied_ask(alloc, ask)?,
         }),
         Message::Answer { answer, .. } => Ok(Message::Answer {

@@ -11,6 +11,7 @@ use Rattle.kad_base.specs.declared.types.Id.{Id}
 use Rattle.kad_base.specs.declared.types.Addr.{Addr}
 use Rattle.kad_base.specs.declared.types.Contact.{Contact}
 use Rattle.kad_base.specs.declared.types.Event.{Event}
+use Rattle.kad_base.specs.declared.types.Proof.{Proof}
 use Rattle.kad_base.specs.Contacts.{same}
 use Rattle.kad_base.specs.Outside.{Grows}
 use Rattle.id_puzzles.specs.Drawn.{WordsState}
@@ -19,6 +20,7 @@ use Rattle.kad_base.specs.Words.{word, word_bytes}
 use Rattle.kad_krpc.specs.declared.message.Ask.{Ask}
 use Rattle.kad_krpc.specs.declared.message.Message.TheVariants as message
 use Rattle.kad_krpc.specs.Form.{form, IsGivenPort, IsWritableAsk}
+use Rattle.lookup_core.specs.Quest.{brought}
 use Rattle.lookup_core.specs.declared.gather.Token.{Token}
 use Rattle.follow_ups.specs.declared.announce.Said.{Said}
 use Rattle.follow_ups.specs.declared.announce.Said.TheVariants.{Item, Peer}
@@ -27,27 +29,27 @@ use Rattle.follow_ups.specs.Announced.{MaySay, announcing, asks_of, port_of, ann
 
 -- ---- one list of them after another
 
-pub announces_then : (read_only : Bool) (seed : List ℕ) (place : ℕ) (xs ys : List Announcement) (es fs : List Event) → Announces read_only seed place xs es → Announces read_only seed (place + length xs) ys fs → Announces read_only seed place (xs ++ ys) (es ++ fs)
-announces_then read_only seed place [] ys es fs h k =
+pub announces_then : (read_only : Bool) (proof : Option Proof) (seed : List ℕ) (place : ℕ) (xs ys : List Announcement) (es fs : List Event) → Announces read_only proof seed place xs es → Announces read_only proof seed (place + length xs) ys fs → Announces read_only proof seed place (xs ++ ys) (es ++ fs)
+announces_then read_only proof seed place [] ys es fs h k =
     let here : place + 0 ≡ place = omega arith in
-    subst (λ (l : List Event). Announces read_only seed place ys (l ++ fs)) (sym h) (subst (λ n. Announces read_only seed n ys fs) here k)
-announces_then read_only seed place (x ∷ xs) ys es fs h k =
+    subst (λ (l : List Event). Announces read_only proof seed place ys (l ++ fs)) (sym h) (subst (λ n. Announces read_only proof seed n ys fs) here k)
+announces_then read_only proof seed place (x ∷ xs) ys es fs h k =
     let there : place + length (x ∷ xs) ≡ place + 1 + length xs = omega arith in
-    (h.0, h.1 ++ fs, ap (λ (l : List Event). l ++ fs) h.2, announces_then read_only seed (place + 1) xs ys h.1 fs h.3 (subst (λ n. Announces read_only seed n ys fs) there k))
+    (h.0, h.1 ++ fs, ap (λ (l : List Event). l ++ fs) h.2, announces_then read_only proof seed (place + 1) xs ys h.1 fs h.3 (subst (λ n. Announces read_only proof seed n ys fs) there k))
 
 pub sent_then : (es fs : List Event) → sent_in (es ++ fs) ≡ sent_in es + sent_in fs
 sent_then es fs = ap (λ (l : List Event). length l) (filter-append is_sent es fs) ∙ length-append (filter is_sent es) (filter is_sent fs)
 
 -- what was announced, and how many of it was sent
-abbrev pub Sends : Bool → List ℕ → ℕ → List Announcement → ℕ → List Event → Type 0
-Sends read_only seed place all sent es = Announces read_only seed place all es × (sent ≡ sent_in es)
+abbrev pub Sends : Bool → Option Proof → List ℕ → ℕ → List Announcement → ℕ → List Event → Type 0
+Sends read_only proof seed place all sent es = Announces read_only proof seed place all es × (sent ≡ sent_in es)
 
-pub sends_then : (read_only : Bool) (seed : List ℕ) (place : ℕ) (xs ys : List Announcement) (m n : ℕ) (es fs : List Event) → Sends read_only seed place xs m es → Sends read_only seed (place + length xs) ys n fs → Sends read_only seed place (xs ++ ys) (m + n) (es ++ fs)
-sends_then read_only seed place xs ys m n es fs h k =
+pub sends_then : (read_only : Bool) (proof : Option Proof) (seed : List ℕ) (place : ℕ) (xs ys : List Announcement) (m n : ℕ) (es fs : List Event) → Sends read_only proof seed place xs m es → Sends read_only proof seed (place + length xs) ys n fs → Sends read_only proof seed place (xs ++ ys) (m + n) (es ++ fs)
+sends_then read_only proof seed place xs ys m n es fs h k =
     let all = sent_then es fs in
     let a = h.1 in
     let b = k.1 in
-    (announces_then read_only seed place xs ys es fs h.0 k.0, omega (arith, all, a, b))
+    (announces_then read_only proof seed place xs ys es fs h.0 k.0, omega (arith, all, a, b))
 
 -- ---- the tokens of those that were found
 
@@ -88,19 +90,19 @@ abbrev pub words_at : WordsState → List Token → List Contact → ℕ → Wor
 words_at w tokens found i = record { seed = w.seed; place = w.place + length (tokens_for (take i found) tokens) }
 
 -- one contact more
-pub sends_more : (read_only : Bool) (start w : WordsState) (asks : List ℕ → Ask) (tokens : List Token) (found : List Contact) (i : ℕ) (d : Contact) (m n : ℕ) (a b c : Option (List Event)) → i < length found
+pub sends_more : (read_only : Bool) (proof : Option Proof) (start w : WordsState) (asks : List ℕ → Ask) (tokens : List Token) (found : List Contact) (i : ℕ) (d : Contact) (m n : ℕ) (a b c : Option (List Event)) → i < length found
     → w ≡ words_at start tokens found i
-    → Grows a b (Sends read_only start.seed start.place (announcements asks (take i found) tokens) m)
-    → Grows b c (Sends read_only w.seed w.place (map (announcement asks) (first_from tokens (get_or found i d))) n)
-    → Grows a c (Sends read_only start.seed start.place (announcements asks (take (i + 1) found) tokens) (m + n))
-sends_more read_only start w asks tokens found i d m n a b c lt is g h =
+    → Grows a b (Sends read_only proof start.seed start.place (announcements asks (take i found) tokens) m)
+    → Grows b c (Sends read_only proof w.seed w.place (map (announcement asks) (first_from tokens (get_or found i d))) n)
+    → Grows a c (Sends read_only proof start.seed start.place (announcements asks (take (i + 1) found) tokens) (m + n))
+sends_more read_only proof start w asks tokens found i d m n a b c lt is g h =
     let xs : List Announcement = announcements asks (take i found) tokens in
     let ys : List Announcement = map (announcement asks) (first_from tokens (get_or found i d)) in
     let many : length xs ≡ length (tokens_for (take i found) tokens) = length-map (tokens_for (take i found) tokens) (announcement asks) in
     grows_then a b c _ _ _ g h (λ es fs p q.
-    let moved = subst (λ (v : WordsState). Sends read_only v.seed v.place ys n fs) is q in
-    let placed = subst (λ k. Sends read_only start.seed (start.place + k) ys n fs) (sym many) moved in
-    subst (λ (l : List Announcement). Sends read_only start.seed start.place l (m + n) (es ++ fs)) (sym (announcements_more asks tokens found i d lt)) (sends_then read_only start.seed start.place xs ys m n es fs p placed))
+    let moved = subst (λ (v : WordsState). Sends read_only proof v.seed v.place ys n fs) is q in
+    let placed = subst (λ k. Sends read_only proof start.seed (start.place + k) ys n fs) (sym many) moved in
+    subst (λ (l : List Announcement). Sends read_only proof start.seed start.place l (m + n) (es ++ fs)) (sym (announcements_more asks tokens found i d lt)) (sends_then read_only proof start.seed start.place xs ys m n es fs p placed))
 
 pub words_more : (start w v : WordsState) (tokens : List Token) (found : List Contact) (i : ℕ) (d : Contact) → i < length found → w ≡ words_at start tokens found i
     → v ≡ record { seed = w.seed; place = w.place + length (first_from tokens (get_or found i d)) } → v ≡ words_at start tokens found (i + 1)
@@ -129,13 +131,13 @@ any_err (Ok x) X h = tt
 any_err (Err f) X h = h
 
 -- those that were made are a front of all
-pub some_made : (read_only : Bool) (seed : List ℕ) (place : ℕ) (asks : List ℕ → Ask) (tokens : List Token) (found : List Contact) (i m : ℕ) (a b : Option (List Event))
-    → Grows a b (Sends read_only seed place (announcements asks (take i found) tokens) m) → Grows a b (AnnouncesSome read_only seed place (announcements asks found tokens))
-some_made read_only seed place asks tokens found i m a b g =
+pub some_made : (read_only : Bool) (proof : Option Proof) (seed : List ℕ) (place : ℕ) (asks : List ℕ → Ask) (tokens : List Token) (found : List Contact) (i m : ℕ) (a b : Option (List Event))
+    → Grows a b (Sends read_only proof seed place (announcements asks (take i found) tokens) m) → Grows a b (AnnouncesSome read_only proof seed place (announcements asks found tokens))
+some_made read_only proof seed place asks tokens found i m a b g =
     let xs : List Announcement = announcements asks (take i found) tokens in
     let ys : List Announcement = announcements asks (drop i found) tokens in
     let made : take (length xs) (announcements asks found tokens) ≡ xs = ap (take (length xs)) (announcements_apart asks tokens found i) ∙ take-append_seam xs ys in
-    grows_weaker a b _ _ g (λ es h. (length xs, subst (λ (l : List Announcement). Announces read_only seed place l es) (sym made) h.0))
+    grows_weaker a b _ _ g (λ es h. (length xs, subst (λ (l : List Announcement). Announces read_only proof seed place l es) (sym made) h.0))
 
 -- ---- the token of one contact
 
@@ -182,19 +184,21 @@ unfolding word_bytes
 bytes_of_word w = refl
 
 -- the datagram's parts are those that the definition names
-pub datagram_is : {F : Type 0} (read_only : Bool) (r : Result (List ℕ) F) (id : List ℕ) (tx : ℕ) (mine ask : Ask) → id ≡ to_le_bytes w32 tx → mine ≡ ask → IfOk r (λ bytes. bytes ≡ form (message.Query id read_only mine)) → IfOk r (λ bytes. bytes ≡ asking read_only tx ask)
-datagram_is read_only r id tx mine ask e f h =
-    let a = subst (λ (x : List ℕ). IfOk r (λ bytes. bytes ≡ form (message.Query x read_only mine))) (e ∙ bytes_of_word tx) h in
-    subst (λ (x : Ask). IfOk r (λ bytes. bytes ≡ form (message.Query (word_bytes tx) read_only x))) f a
+pub datagram_is : {F : Type 0} (read_only : Bool) (proof brings : Option Proof) (r : Result (List ℕ) F) (id : List ℕ) (tx : ℕ) (mine ask : Ask) → id ≡ to_le_bytes w32 tx → brings ≡ brought read_only proof → mine ≡ ask
+    → IfOk r (λ bytes. bytes ≡ form (message.Query id read_only brings mine)) → IfOk r (λ bytes. bytes ≡ asking read_only proof tx ask)
+datagram_is read_only proof brings r id tx mine ask e g f h =
+    let a = subst (λ (x : List ℕ). IfOk r (λ bytes. bytes ≡ form (message.Query x read_only brings mine))) (e ∙ bytes_of_word tx) h in
+    let b = subst (λ (x : Option Proof). IfOk r (λ bytes. bytes ≡ form (message.Query (word_bytes tx) read_only x mine))) g a in
+    subst (λ (x : Ask). IfOk r (λ bytes. bytes ≡ form (message.Query (word_bytes tx) read_only (brought read_only proof) x))) f b
 
 given_port : (port : ℕ) → IsGivenPort (port_of port)
 given_port zero = tt
 given_port (suc n) = λ e. absurd cc
 
 -- what may be said has a written form
-pub may_write : (said : Said) (token : List ℕ) (mine : Ask) → mine ≡ asks_of said token → MaySay said → IsWritableAsk mine
-may_write (Peer own key port) token mine e h = subst IsWritableAsk (sym e) (given_port port)
-may_write (Item own v) token mine e h = subst IsWritableAsk (sym e) (record { form = h; immutable = refl })
+pub may_write : (proof : Option Proof) (said : Said) (token : List ℕ) (mine : Ask) → mine ≡ asks_of said token → MaySay said → IsWritableAsk proof mine
+may_write proof (Peer own key port) token mine e h = subst (IsWritableAsk proof) (sym e) (given_port port)
+may_write proof (Item own v) token mine e h = subst (IsWritableAsk proof) (sym e) (record { form = h; immutable = refl })
 
 abbrev pub number_sent : Bool → ℕ
 number_sent true = 1
@@ -205,13 +209,13 @@ pub first_at : (tokens : List Token) (c : Contact) (i : ℕ) (x : Token) → IsF
 first_at tokens c i x h here = h.first x ∙ ap (λ (y : Token). y ∷ []) (sym here)
 
 -- one was tried
-pub one_tried : (read_only : Bool) (w : WordsState) (asks : List ℕ → Ask) (tokens : List Token) (c : Contact) (t : Token) (tx : ℕ) (sent : Bool) (n : ℕ) (a b : Option (List Event)) → tx ≡ word w.seed w.place → first_from tokens c ≡ t ∷ [] → n ≡ number_sent sent
-    → Grows a b (λ es. es ≡ tried sent t.contact.addr (asking read_only tx (announcement asks t).ask) ∷ [])
-    → Grows a b (Sends read_only w.seed w.place (map (announcement asks) (first_from tokens c)) n)
-one_tried read_only w asks tokens c t tx sent n a b id first count g =
-    let under = subst (λ m. Grows a b (λ es. es ≡ tried sent t.contact.addr (asking read_only m (announcement asks t).ask) ∷ [])) id g in
-    grows_weaker a b _ _ under (λ es e. subst (λ (l : List Token). Sends read_only w.seed w.place (map (announcement asks) l) n es) (sym first)
-    ((sent, [], e, refl), count ∙ sym (counted_one sent t.contact.addr (asking read_only (word w.seed w.place) (announcement asks t).ask) es e)))
+pub one_tried : (read_only : Bool) (proof : Option Proof) (w : WordsState) (asks : List ℕ → Ask) (tokens : List Token) (c : Contact) (t : Token) (tx : ℕ) (sent : Bool) (n : ℕ) (a b : Option (List Event)) → tx ≡ word w.seed w.place → first_from tokens c ≡ t ∷ [] → n ≡ number_sent sent
+    → Grows a b (λ es. es ≡ tried sent t.contact.addr (asking read_only proof tx (announcement asks t).ask) ∷ [])
+    → Grows a b (Sends read_only proof w.seed w.place (map (announcement asks) (first_from tokens c)) n)
+one_tried read_only proof w asks tokens c t tx sent n a b id first count g =
+    let under = subst (λ m. Grows a b (λ es. es ≡ tried sent t.contact.addr (asking read_only proof m (announcement asks t).ask) ∷ [])) id g in
+    grows_weaker a b _ _ under (λ es e. subst (λ (l : List Token). Sends read_only proof w.seed w.place (map (announcement asks) l) n es) (sym first)
+    ((sent, [], e, refl), count ∙ sym (counted_one sent t.contact.addr (asking read_only proof (word w.seed w.place) (announcement asks t).ask) es e)))
   where
     counted_one : (b : Bool) (to : Addr) (bytes : List ℕ) (es : List Event) → es ≡ tried b to bytes ∷ [] → sent_in es ≡ number_sent b
     counted_one true to bytes es e = ap sent_in e
@@ -221,8 +225,8 @@ pub drawn_one : (w u : WordsState) (tokens : List Token) (c : Contact) (t : Toke
 drawn_one w u tokens c t first drawn = drawn ∙ ap (λ (l : List Token). record { seed = w.seed; place = w.place + length l }) (sym first)
 
 -- none was
-pub none_tried : (read_only : Bool) (w : WordsState) (asks : List ℕ → Ask) (tokens : List Token) (c : Contact) (a : Option (List Event)) → first_from tokens c ≡ [] → Grows a a (Sends read_only w.seed w.place (map (announcement asks) (first_from tokens c)) 0)
-none_tried read_only w asks tokens c a first = grows_none a _ (subst (λ (l : List Token). Sends read_only w.seed w.place (map (announcement asks) l) 0 []) (sym first) (refl, refl))
+pub none_tried : (read_only : Bool) (proof : Option Proof) (w : WordsState) (asks : List ℕ → Ask) (tokens : List Token) (c : Contact) (a : Option (List Event)) → first_from tokens c ≡ [] → Grows a a (Sends read_only proof w.seed w.place (map (announcement asks) (first_from tokens c)) 0)
+none_tried read_only proof w asks tokens c a first = grows_none a _ (subst (λ (l : List Token). Sends read_only proof w.seed w.place (map (announcement asks) l) 0 []) (sym first) (refl, refl))
 
 -- ---- what is owed where a port was told
 

@@ -5,6 +5,7 @@ use Rattle.std.specs.List.{flat_map}
 use Rattle.kad_base.specs.declared.types.Id.{Id}
 use Rattle.kad_base.specs.declared.types.Contact.{Contact}
 use Rattle.kad_base.specs.declared.types.Event.{Event}
+use Rattle.kad_base.specs.declared.types.Proof.{Proof}
 use Rattle.kad_base.specs.Contacts.{same}
 use Rattle.kad_base.specs.Words.{word, word_bytes}
 use Rattle.kad_krpc.specs.declared.message.Ask.{Ask}
@@ -14,6 +15,7 @@ use Rattle.kad_krpc.specs.declared.message.Port.{Port}
 use Rattle.kad_krpc.specs.declared.message.Port.TheVariants.{Given, Implied}
 use Rattle.kad_krpc.specs.Fields.{IsCarried}
 use Rattle.kad_krpc.specs.Form.{form}
+use Rattle.lookup_core.specs.Quest.{brought}
 use Rattle.lookup_core.specs.declared.gather.Token.{Token}
 use Rattle.follow_ups.specs.declared.announce.Announcement.{Announcement}
 use Rattle.follow_ups.specs.declared.announce.Said.{Said}
@@ -69,19 +71,20 @@ abbrev pub owed : Option ℕ → Id → Id → List Contact → List Token → L
 owed None own key found tokens = []
 owed (Some port) own key found tokens = announcements (announcing own key port) found tokens
 
--- the query under this transaction id, which is read-only or not (BEP 43)
-abbrev pub asking : Bool → ℕ → Ask → List ℕ
-asking read_only tx ask = form (message.Query (word_bytes tx) read_only ask)
+-- the query under this transaction id, which is read-only or not (BEP 43): one that isn't brings the proof of who asks, if
+-- there is one
+abbrev pub asking : Bool → Option Proof → ℕ → Ask → List ℕ
+asking read_only proof tx ask = form (message.Query (word_bytes tx) read_only (brought read_only proof) ask)
 
 -- each was sent or refused, in order, and nothing else happened; their transaction ids are the words of the seed from this
 -- place on
-abbrev pub Announces : Bool → List ℕ → ℕ → List Announcement → List Event → Type 0
-Announces read_only seed place [] events = events ≡ []
-Announces read_only seed place (a ∷ rest) events =
+abbrev pub Announces : Bool → Option Proof → List ℕ → ℕ → List Announcement → List Event → Type 0
+Announces read_only proof seed place [] events = events ≡ []
+Announces read_only proof seed place (a ∷ rest) events =
     (was_sent : Bool) × (later : List Event)
-    × (events ≡ tried was_sent a.to (asking read_only (word seed place) a.ask) ∷ later)
-    × Announces read_only seed (place + 1) rest later
+    × (events ≡ tried was_sent a.to (asking read_only proof (word seed place) a.ask) ∷ later)
+    × Announces read_only proof seed (place + 1) rest later
 
 -- a front of them was, and then no more
-abbrev pub AnnouncesSome : Bool → List ℕ → ℕ → List Announcement → List Event → Type 0
-AnnouncesSome read_only seed place all events = (n : ℕ) × Announces read_only seed place (take n all) events
+abbrev pub AnnouncesSome : Bool → Option Proof → List ℕ → ℕ → List Announcement → List Event → Type 0
+AnnouncesSome read_only proof seed place all events = (n : ℕ) × Announces read_only proof seed place (take n all) events

@@ -6,9 +6,9 @@ ghost use Rattle.kad_base.specs.Outside.{Grows};
 ghost use Rattle.follow_ups.specs.Announced.{port_of, asks_of, MaySay, announcement, first_from, IsFirstFrom, announcements, tried, asking, Announces, AnnouncesSome, sent_in};
 
 use id_puzzles::Words;
-use kad_base::{Addr, Bytes, Contact, Id, Link, List, NoMemory, is_same};
+use kad_base::{Addr, Bytes, Contact, Id, Link, List, NoMemory, Proof, is_same};
 use kad_krpc::{Ask, Message, Port, encode};
-use lookup_core::Token;
+use lookup_core::{Token, brought};
 use std::alloc::Global;
 
 /// What is said to whoever gave a token.
@@ -57,46 +57,49 @@ pub(crate) fn ask_for(alloc: Global, said: &Said<'_>, token: &Token) -> Result<A
     }
 }
 
-/// What is said as a datagram: a query, which is read-only or not (BEP 43).
+/// What is said as a datagram: a query, which is read-only or not (BEP 43), and brings the proof of who asks unless it is.
 fn datagram(
     alloc: Global,
     said: &Said<'_>,
     read_only: bool,
+    proof: Option<Proof>,
     tx: u32,
     token: &Token,
 ) -> Result<Bytes, NoMemory>
     requires { MaySay said.now }
     ensures { IfOk result (λ bytes. bytes
-        ≡ asking read_only tx (announcement (asks_of said.now) token.now).ask) }
+        ≡ asking read_only proof tx (announcement (asks_of said.now) token.now).ask) }
 {
     let message = Message::Query {
         tx: List::from_slice(alloc, &tx.to_le_bytes())?,
         read_only,
+        proof: brought(read_only, &proof),
         ask: ask_for(alloc, said, token)?,
     };
     encode(alloc, &message)
 }
 
 /// Says it to the contact that gave the token, by one datagram under the transaction id `tx`; false if the link refused it.
-/// `read_only` says that the sender answers no queries (BEP 43).
+/// `read_only` says that the sender answers no queries (BEP 43), and brings no proof then.
 pub fn send_one<L: Link>(
     alloc: Global,
     link: &mut L,
     said: &Said<'_>,
     read_only: bool,
+    proof: Option<Proof>,
     tx: u32,
     token: &Token,
 ) -> Result<bool, NoMemory>
     requires { MaySay said.now }
     ensures ok { let a = announcement (asks_of said.now) token.now in
         IfOk result (λ sent. Grows (L.told link.old) (L.told link.new)
-        (λ es. es ≡ tried sent a.to (asking read_only tx a.ask) ∷ [])) }
+        (λ es. es ≡ tried sent a.to (asking read_only proof tx a.ask) ∷ [])) }
     ensures err { OnErr result (link.new ≡ link.old) }
     ensures recv_faults { L.recv_faults link.new ≡ L.recv_faults link.old }
     ensures send_faults { L.send_faults link.old ≤ L.send_faults link.new }
     ensures kept { L.kept link.new ≡ L.kept link.old }
 {
-    let bytes = datagram(alloc, said, read_only, tx, token)?;
+    let bytes = datagram(alloc, said, read_only, proof, tx, token)?;
     match link.send(token.contact.addr, bytes.as_slice()) {
         Ok(()) => Ok(true),
         Err(_) => Ok(false),
@@ -131,6 +134,7 @@ pub fn announce_to<L: Link>(
     words: &mut Words,
     said: &Said<'_>,
     read_only: bool,
+    proof: Option<Proof>,
     contact: &Contact,
     tokens: &[Token],
 ) -> Result<usize, NoMemory>
@@ -140,7 +144,7 @@ pub fn announce_to<L: Link>(
     ensures ok { let all = map (announcement (asks_of said.now))
         (first_from tokens.now contact.now) in
         IfOk result (λ sent. Grows (L.told link.old) (L.told link.new)
-        (λ es. Announces read_only words.old.seed words.old.place all es × (sent ≡ sent_in es))) }
+        (λ es. Announces read_only proof words.old.seed words.old.place all es × (sent ≡ sent_in es))) }
     ensures drawn { OnOk result (words.new ≡ record words.old
         { place = words.old.place + length (first_from tokens.now contact.now) }) }
     ensures err { OnErr result (link.new ≡ link.old) }
@@ -150,7 +154,8 @@ pub fn announce_to<L: Link>(
 {
     match place_from(tokens, contact) {
         Some(place) => {
-            let sent = send_one(alloc, link, said, read_only, words.next(), &tokens[place])?;
+            let tx = words.next();
+            let sent = send_one(alloc, link, said, read_only, proof, tx, &tokens[place])?;
             Ok(usize::from(sent))
         }
         None => Ok(0),
@@ -165,6 +170,7 @@ pub fn announce<L: Link>(
     words: &mut Words,
     said: &Said<'_>,
     read_only: bool,
+    proof: Option<Proof>,
     found: &[Contact],
     tokens: &[Token],
 ) -> Result<usize, NoMemory>
@@ -172,17 +178,17 @@ pub fn announce<L: Link>(
     requires say { MaySay said.now }
     ensures ok { let all = announcements (asks_of said.now) found.now tokens.now in
         IfOk result (λ sent. Grows (L.told link.old) (L.told link.new)
-        (λ es. Announces read_only words.old.seed words.old.place all es × (sent ≡ sent_in es))) }
+        (λ es. Announces read_only proof words.old.seed words.old.place all es × (sent ≡ sent_in es))) }
     ensures err { let all = announcements (asks_of said.now) found.now tokens.now in
         OnErr result (Grows (L.told link.old) (L.told link.new)
-        (AnnouncesSome read_only words.old.seed words.old.place all)) }
+        (AnnouncesSome read_only proof words.old.seed words.old.place all)) }
     ensures recv_faults { L.recv_faults link.new ≡ L.recv_faults link.old }
     ensures send_faults { L.send_faults link.old ≤ L.send_faults link.new }
     ensures kept { L.kept link.new ≡ L.kept link.old }
 {
     let mut sent = 0;
     for contact in found {
-        sent += announce_to(alloc, link, words, said, read_only, contact, tokens)?;
+        sent += announce_to(alloc, link, words, said, read_only, proof, contact, tokens)?;
     }
     Ok(sent)
 }

@@ -1,6 +1,7 @@
 -- What a written message says: each step of the reading gives its part back.
 use Rattle.std.proofs.Common.{◌≡◌, ℕ, Bool, true, false, List, [], ◌∷◌, pos, Option, Some, None, Ok, refl, sym, ap, ◌∙◌}
 use Rattle.std.specs.Prelude.{codes}
+use Rattle.kad_base.specs.declared.types.Proof.{Proof}
 use Rattle.kad_bencode.specs.Keys.{value_of}
 use Rattle.kad_bencode.specs.Parts.{bytes_of}
 use Rattle.kad_bencode.specs.declared.entries.Pair.{Pair}
@@ -18,9 +19,9 @@ use Rattle.kad_krpc.specs.Asking.{arguments_of, name_of, is_read_only, is_one, I
 use Rattle.kad_krpc.specs.Answering.{answer_pairs}
 use Rattle.kad_krpc.specs.Reading.{kind_of, kind_in, code_text_of, code_text_in, code_text, query_by, body_at, said, Says}
 use Rattle.kad_krpc.specs.Form.{IsWritable, message_pairs}
-use Rattle.kad_krpc.specs.WellTyped.{IsWell}
+use Rattle.kad_krpc.specs.WellTyped.{IsWell, IsWellProof}
 use Rattle.kad_krpc.proofs.Stepping.{bytes_text, integer_int, list_list, look_dict, stepped, had}
-use Rattle.kad_krpc.proofs.Asking.{ask_back}
+use Rattle.kad_krpc.proofs.Asking.{ask_back, proof_back}
 use Rattle.kad_krpc.proofs.Answering.{answer_back}
 
 message_said : (ps : List (Pair Value)) (tx name : List ℕ) (k : Kind) (r : Step Message) → value_of ps (codes "t") ≡ Some (Text tx) → value_of ps (codes "y") ≡ Some (Text name) → kind_in (Some name) ≡ Some k → body_at k tx (value_of ps) ≡ r → said (Dict ps) ≡ r
@@ -29,18 +30,18 @@ message_said ps tx name k r t y is body =
     (stepped _ tx _ _ (ap (needed bytes_of key.T) t ∙ had bytes_of key.T _ _ (bytes_text tx))
     (stepped _ k _ _ (ap (needed kind_of key.Y) y ∙ had kind_of key.Y _ _ (ap kind_in (bytes_text name) ∙ is)) body))
 
-query_said : (tx : List ℕ) (ro : Bool) (ask : Ask) (r : Option Value) → is_read_only r ≡ ro → IsWellAsk ask → IsWritableAsk ask → query_by tx (Some (Text (name_of ask))) (Some (Dict (arguments_of ask))) r ≡ Ok (message.Query tx ro ask)
-query_said tx ro ask r is w n =
+query_said : (tx : List ℕ) (ro : Bool) (proof : Option Proof) (ask : Ask) (r : Option Value) → is_read_only r ≡ ro → IsWellProof proof → IsWellAsk ask → IsWritableAsk proof ask → query_by tx (Some (Text (name_of ask))) (Some (Dict (arguments_of proof ask))) r ≡ Ok (message.Query tx ro proof ask)
+query_said tx ro proof ask r is v w n =
     stepped _ (name_of ask) _ _ (had bytes_of key.Q _ _ (bytes_text (name_of ask)))
-    (stepped _ ask _ _ (ask_back ask w n) (ap (λ b. Ok (message.Query tx b ask)) is))
+    (stepped _ ask _ _ (ask_back proof ask w n) (λ i. Ok (message.Query tx (is i) (proof_back proof ask v n i) ask)))
 
 pub said_back : (m : Message) → IsWell m → IsWritable m → said (Dict (message_pairs m)) ≡ Ok m
-said_back (message.Query tx true ask) w n =
-    message_said (message_pairs (message.Query tx true ask)) tx (codes "q") kind.Query _ refl refl refl
-    (query_said tx true ask (Some (Int (pos 1))) (ap is_one (integer_int (pos 1))) w n)
-said_back (message.Query tx false ask) w n =
-    message_said (message_pairs (message.Query tx false ask)) tx (codes "q") kind.Query _ refl refl refl
-    (query_said tx false ask None refl w n)
+said_back (message.Query tx true proof ask) w n =
+    message_said (message_pairs (message.Query tx true proof ask)) tx (codes "q") kind.Query _ refl refl refl
+    (query_said tx true proof ask (Some (Int (pos 1))) (ap is_one (integer_int (pos 1))) w.0 w.1 n)
+said_back (message.Query tx false proof ask) w n =
+    message_said (message_pairs (message.Query tx false proof ask)) tx (codes "q") kind.Query _ refl refl refl
+    (query_said tx false proof ask None refl w.0 w.1 n)
 said_back (message.Answer tx answer) w n =
     message_said (message_pairs (message.Answer tx answer)) tx (codes "r") kind.Answer _ refl refl refl
     (stepped _ (value_of (answer_pairs answer)) _ _ (had look_of key.R _ _ (look_dict (answer_pairs answer)))

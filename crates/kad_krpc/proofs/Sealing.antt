@@ -1,10 +1,10 @@
 -- The pair of a tag in the text of a dictionary: taken out, put in, and both.
-use Rattle.std.proofs.Common.{◌≡◌, ℕ, ◌-◌, true, false, List, ◌++◌, length, take, drop, Option, Some, None, refl, sym, ap, ◌∙◌, arith, append-nil}
+use Rattle.std.proofs.Common.{◌≡◌, ℕ, ◌-◌, true, false, List, ◌++◌, length, take, drop, Some, None, refl, sym, ap, ◌∙◌, arith, append-nil}
 use Rattle.std.specs.Prelude.{codes}
 use Rattle.std.proofs.lemmas.List.{take_all, length-drop}
 use Rattle.kad_bencode.specs.Keys.{put, value_of, without}
 use Rattle.kad_bencode.specs.Parts.{bytes_in, bytes_of, member_in, member_of}
-use Rattle.kad_bencode.specs.Spelling.{Spells, string_text, text_of}
+use Rattle.kad_bencode.specs.Spelling.{string_text, text_of}
 use Rattle.kad_bencode.specs.Placing.{IsPlaceFor}
 use Rattle.kad_bencode.specs.Written.{Puts, PutsPairs}
 use Rattle.kad_bencode.specs.declared.entries.Pair.{Pair}
@@ -64,8 +64,8 @@ puts_tagged bytes tag pairs place is u f g h =
 -- ---- on, and off again
 
 no_tag : (m : Message) → value_of (message_pairs m) (codes "sg") ≡ None
-no_tag (message.Query tx true ask) = refl
-no_tag (message.Query tx false ask) = refl
+no_tag (message.Query tx true proof ask) = refl
+no_tag (message.Query tx false proof ask) = refl
 no_tag (message.Answer tx answer) = refl
 no_tag (message.Fault tx code said) = refl
 

@@ -17,8 +17,8 @@ use Rattle.kad_krpc.proofs.Asking.{good_ask, ask_within}
 use Rattle.kad_krpc.proofs.Answering.{good_answer_dict, answer_within}
 
 good_message : (m : Message) → IsWell m → HasForms m → Good (Dict (message_pairs m))
-good_message (message.Query tx true ask) w f = good_dict (message_pairs (message.Query tx true ask)) (good_ask ask w f, (good_text (name_of ask), (good_int (pos 1) refl, (good_text tx, (good_text (codes "q"), tt))))) refl refl
-good_message (message.Query tx false ask) w f = good_dict (message_pairs (message.Query tx false ask)) (good_ask ask w f, (good_text (name_of ask), (good_text tx, (good_text (codes "q"), tt)))) refl refl
+good_message (message.Query tx true proof ask) w f = good_dict (message_pairs (message.Query tx true proof ask)) (good_ask proof ask w.1 f, (good_text (name_of ask), (good_int (pos 1) refl, (good_text tx, (good_text (codes "q"), tt))))) refl refl
+good_message (message.Query tx false proof ask) w f = good_dict (message_pairs (message.Query tx false proof ask)) (good_ask proof ask w.1 f, (good_text (name_of ask), (good_text tx, (good_text (codes "q"), tt)))) refl refl
 good_message (message.Answer tx answer) w f = good_dict (message_pairs (message.Answer tx answer)) (good_answer_dict answer f, (good_text tx, (good_text (codes "r"), tt))) refl refl
 good_message (message.Fault tx code said) w f = good_dict (message_pairs (message.Fault tx code said)) (good_list (Int code ∷ Text said ∷ []) (good_int code w, (good_text said, tt)), (good_text tx, (good_text (codes "e"), tt))) refl refl
 
@@ -30,8 +30,8 @@ error_within code said =
     omega arith
 
 message_within : (m : Message) → HasForms m → Within 15 (message_pairs m)
-message_within (message.Query tx true ask) f = (dict_within 14 (arguments_of ask) (ask_within ask f), (text_within 15 (name_of ask), (int_within 15 (pos 1), (text_within 15 tx, (text_within 15 (codes "q"), tt)))))
-message_within (message.Query tx false ask) f = (dict_within 14 (arguments_of ask) (ask_within ask f), (text_within 15 (name_of ask), (text_within 15 tx, (text_within 15 (codes "q"), tt))))
+message_within (message.Query tx true proof ask) f = (dict_within 14 (arguments_of proof ask) (ask_within proof ask f), (text_within 15 (name_of ask), (int_within 15 (pos 1), (text_within 15 tx, (text_within 15 (codes "q"), tt)))))
+message_within (message.Query tx false proof ask) f = (dict_within 14 (arguments_of proof ask) (ask_within proof ask f), (text_within 15 (name_of ask), (text_within 15 tx, (text_within 15 (codes "q"), tt))))
 message_within (message.Answer tx answer) f = (dict_within 14 (answer_pairs answer) (answer_within answer f), (text_within 15 tx, (text_within 15 (codes "r"), tt)))
 message_within (message.Fault tx code said) f = (error_within code said, (text_within 15 tx, (text_within 15 (codes "e"), tt)))
 

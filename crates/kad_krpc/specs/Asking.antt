@@ -1,11 +1,12 @@
 -- The dictionary `a` of a query, by its method (BEP 5; `get` and `put` are BEP 44's; the order of the steps is this
--- project's own; `ro` is BEP 43's, `want` BEP 32's): how it is read, how it is written, and which queries have a written
--- form. A method more is a line in each part.
-use Rattle.std.specs.Prelude.{◌≡◌, ◌≢◌, ◌<◌, ℕ, Bool, true, false, cond, is_some, ◌&&◌, ◌||◌, List, [], ◌∷◌, ◌++◌, codes, bytes_eq, nat_eq, nat_le, nat_lt, ℤ, pos, negsuc, Option, Some, None, Result, Ok, Err}
+-- project's own, and so is the key `sk`; `ro` is BEP 43's, `want` BEP 32's): how it is read, how it is written, and which
+-- queries have a written form. A method more is a line in each part.
+use Rattle.std.specs.Prelude.{◌≡◌, ◌≢◌, ◌<◌, ℕ, Bool, true, false, cond, is_some, ◌&&◌, ◌||◌, List, [], ◌∷◌, ◌++◌, length, codes, bytes_eq, nat_eq, nat_le, nat_lt, ℤ, pos, negsuc, Option, Some, None, Result, Ok, Err}
 use Rattle.std.specs.List.{list_any}
 use Rattle.kad_base.specs.declared.types.Id.{Id}
+use Rattle.kad_base.specs.declared.types.Proof.{Proof}
 use Rattle.kad_bencode.specs.Naming.{named}
-use Rattle.kad_bencode.specs.Parts.{bytes_of, integer_of, list_of}
+use Rattle.kad_bencode.specs.Parts.{bytes_of, integer_of, list_of, member_of}
 use Rattle.kad_bencode.specs.Spelling.{text_of}
 use Rattle.kad_bencode.specs.declared.entries.Pair.{Pair}
 use Rattle.kad_bencode.specs.declared.value.Value.{Value}
@@ -21,7 +22,7 @@ use Rattle.kad_krpc.specs.declared.message.Method.{Method}
 use Rattle.kad_krpc.specs.declared.message.Method.TheVariants.{Ping as Method_ping, FindNode as Method_find_node, GetPeers as Method_get_peers, AnnouncePeer as Method_announce_peer, Get as Method_get, Put as Method_put}
 use Rattle.kad_krpc.specs.declared.ask.AskView.{AskView}
 use Rattle.kad_krpc.specs.declared.ask.AskView.TheVariants as seen
-use Rattle.kad_records.specs.Records.{IsWellId}
+use Rattle.kad_records.specs.Records.{IsWellId, proof_at, proof_bytes}
 use Rattle.kad_krpc.specs.Fields.{Step, Look, then, needed, optional, look_of, id_of, IsCarried, pair, maybe}
 
 -- ---- read
@@ -142,6 +143,26 @@ ask_by (Some method) name a = arguments_at method a
 abbrev pub ask_of : List ℕ → Option Value → Step Ask
 ask_of name a = ask_by (method_in name) name a
 
+-- the proof that a string is, of 52 bytes (this project's own)
+abbrev pub proof_from : Option (List ℕ) → Option Proof
+proof_from None = None
+proof_from (Some bytes) = cond (nat_eq (length bytes) 52) (Some (proof_at 0 bytes)) None
+
+-- the proof that the value of `sk` is; another value counts as missing
+abbrev pub proof_by : Option Value → Option Proof
+proof_by None = None
+proof_by (Some v) = proof_from (bytes_of v)
+
+-- the proof that arguments bring of who asks, if they bring one
+abbrev pub proof_of : Option Value → Option Proof
+proof_of None = None
+proof_of (Some a) = proof_by (member_of a (codes "sk"))
+
+-- the arguments that are read: those of a method that isn't known are not
+abbrev pub arguments_read : Ask → Option Value → Option Value
+arguments_read (Other method) a = None
+arguments_read other a = a
+
 -- a query is read-only exactly if `ro` is the integer 1
 abbrev pub is_one : Option ℤ → Bool
 is_one None = false
@@ -155,23 +176,33 @@ is_read_only (Some v) = is_one (integer_of v)
 
 -- ---- written
 
+-- a proof as one string: public key and X
+abbrev pub proof_value : Proof → Value
+proof_value proof = Text (proof_bytes (Some proof))
+
+-- the proof of who asks, if it is brought (this project's own). Its key `sk` comes after `port` and before `target`
+abbrev pub proof_pair : Option Proof → List (Pair Value)
+proof_pair proof = maybe (codes "sk") proof_value proof
+
 -- an implied port is written as 1, beside `implied_port`
-abbrev pub announced : Id → Id → Port → List ℕ → List (Pair Value)
-announced id info_hash (Given port) token =
+abbrev pub announced : Option Proof → Id → Id → Port → List ℕ → List (Pair Value)
+announced proof id info_hash (Given port) token =
     pair (codes "id") (Text id.0)
     ++ pair (codes "info_hash") (Text info_hash.0)
     ++ pair (codes "port") (Int (pos port))
+    ++ proof_pair proof
     ++ pair (codes "token") (Text token)
-announced id info_hash Implied token =
+announced proof id info_hash Implied token =
     pair (codes "id") (Text id.0)
     ++ pair (codes "implied_port") (Int (pos 1))
     ++ pair (codes "info_hash") (Text info_hash.0)
     ++ pair (codes "port") (Int (pos 1))
+    ++ proof_pair proof
     ++ pair (codes "token") (Text token)
 
--- two identifiers, under `id` and a key after it
-abbrev pub two_ids : Id → List ℕ → Id → List (Pair Value)
-two_ids id key other = pair (codes "id") (Text id.0) ++ pair key (Text other.0)
+-- two identifiers, under `id` and a key after it, with what stands between them and behind them
+abbrev pub two_ids : Id → List (Pair Value) → List ℕ → Id → List (Pair Value) → List (Pair Value)
+two_ids id between key other behind = pair (codes "id") (Text id.0) ++ between ++ pair key (Text other.0) ++ behind
 
 -- a word of `want`, if it is said
 abbrev pub word_if : Bool → List ℕ → List Value
@@ -191,18 +222,18 @@ abbrev pub want_pair : Want → List (Pair Value)
 want_pair want = maybe (codes "want") want_value (some_want want)
 
 -- a token, and a value by its written form
-abbrev pub put_pairs : Id → List ℕ → List ℕ → List (Pair Value)
-put_pairs id token v = pair (codes "id") (Text id.0) ++ pair (codes "token") (Text token) ++ pair (codes "v") (named v)
+abbrev pub put_pairs : Option Proof → Id → List ℕ → List ℕ → List (Pair Value)
+put_pairs proof id token v = pair (codes "id") (Text id.0) ++ proof_pair proof ++ pair (codes "token") (Text token) ++ pair (codes "v") (named v)
 
--- the arguments of a query; those of a method that isn't known are none
-abbrev pub arguments_of : Ask → List (Pair Value)
-arguments_of (Ping id) = pair (codes "id") (Text id.0)
-arguments_of (FindNode id target want) = two_ids id (codes "target") target ++ want_pair want
-arguments_of (GetPeers id info_hash want) = two_ids id (codes "info_hash") info_hash ++ want_pair want
-arguments_of (AnnouncePeer id info_hash port token) = announced id info_hash port token
-arguments_of (Get id target want) = two_ids id (codes "target") target ++ want_pair want
-arguments_of (Put id token v mutable) = put_pairs id token v
-arguments_of (Other method) = []
+-- the arguments of a query, with the proof that it brings; those of a method that isn't known are none
+abbrev pub arguments_of : Option Proof → Ask → List (Pair Value)
+arguments_of proof (Ping id) = pair (codes "id") (Text id.0) ++ proof_pair proof
+arguments_of proof (FindNode id target want) = two_ids id (proof_pair proof) (codes "target") target (want_pair want)
+arguments_of proof (GetPeers id info_hash want) = two_ids id [] (codes "info_hash") info_hash (proof_pair proof ++ want_pair want)
+arguments_of proof (AnnouncePeer id info_hash port token) = announced proof id info_hash port token
+arguments_of proof (Get id target want) = two_ids id (proof_pair proof) (codes "target") target (want_pair want)
+arguments_of proof (Put id token v mutable) = put_pairs proof id token v
+arguments_of proof (Other method) = []
 
 -- the `q` of a query: the name of its method
 abbrev pub name_of : Ask → List ℕ
@@ -250,15 +281,20 @@ pub record IsPutting (v : List ℕ) (mutable : Bool) : Type 0 where
   pub form : IsCarried v
   pub immutable : mutable ≡ false
 
--- the query has a written form that is read back
-abbrev pub IsWritableAsk : Ask → Type 0
-IsWritableAsk (Ping id) = Unit {0}
-IsWritableAsk (FindNode id target want) = Unit {0}
-IsWritableAsk (GetPeers id info_hash want) = Unit {0}
-IsWritableAsk (AnnouncePeer id info_hash port token) = IsGivenPort port
-IsWritableAsk (Get id target want) = Unit {0}
-IsWritableAsk (Put id token v mutable) = IsPutting v mutable
-IsWritableAsk (Other method) = IsUnknown method
+-- a method that isn't known, with no proof: its arguments are written as none
+pub record IsBare (proof : Option Proof) (method : List ℕ) : Type 0 where
+  pub unknown : IsUnknown method
+  pub no_proof : proof ≡ None
+
+-- the query that brings this proof, or none, has a written form that is read back
+abbrev pub IsWritableAsk : Option Proof → Ask → Type 0
+IsWritableAsk proof (Ping id) = Unit {0}
+IsWritableAsk proof (FindNode id target want) = Unit {0}
+IsWritableAsk proof (GetPeers id info_hash want) = Unit {0}
+IsWritableAsk proof (AnnouncePeer id info_hash port token) = IsGivenPort port
+IsWritableAsk proof (Get id target want) = Unit {0}
+IsWritableAsk proof (Put id token v mutable) = IsPutting v mutable
+IsWritableAsk proof (Other method) = IsBare proof method
 
 -- the port that is announced has 16 bits
 abbrev pub IsWellPort : Port → Type 0

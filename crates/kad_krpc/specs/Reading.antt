@@ -1,5 +1,5 @@
 -- What a datagram says: the steps in which a KRPC message is read off the value that the datagram spells (BEP 5; `ro`
--- is BEP 43's, `snodes` and the order of the steps are this project's own). The first step that fails is the refusal.
+-- is BEP 43's, `snodes`, `sk` and the order of the steps are this project's own). The first step that fails is the refusal.
 -- Keys that no step names are passed over.
 use Rattle.std.specs.Prelude.{◌≡◌, ℕ, cond, List, [], ◌∷◌, codes, bytes_eq, ℤ, Option, Some, None, Result, Ok, Err}
 use Rattle.kad_bencode.specs.Faults.{IsFirstFault}
@@ -14,7 +14,7 @@ use Rattle.kad_krpc.specs.declared.message.KrpcFault.TheVariants.{Bad, Missing, 
 use Rattle.kad_krpc.specs.declared.message.Kind.{Kind}
 use Rattle.kad_krpc.specs.declared.message.Kind.TheVariants.{Query as Kind_query, Answer as Kind_answer, Fault as Kind_fault}
 use Rattle.kad_krpc.specs.Fields.{Step, Look, then, of_kind, needed, look_of}
-use Rattle.kad_krpc.specs.Asking.{ask_of, is_read_only}
+use Rattle.kad_krpc.specs.Asking.{ask_of, proof_of, arguments_read, is_read_only}
 use Rattle.kad_krpc.specs.Answering.{answer_at}
 
 -- ---- the kinds of a value
@@ -49,12 +49,12 @@ code_text_of v = code_text_in (list_of v)
 
 -- ---- messages, by their kind
 
--- a query, by the values of `q`, `a` and `ro`: the method first, then what it asks
+-- a query, by the values of `q`, `a` and `ro`: the method first, then what it asks, and the proof that it brings
 abbrev pub query_by : List ℕ → Option Value → Option Value → Option Value → Step Message
 query_by tx q a ro =
     then (needed bytes_of key.Q q) (λ method.
     then (ask_of method a) (λ ask.
-    Ok (message.Query tx (is_read_only ro) ask)))
+    Ok (message.Query tx (is_read_only ro) (proof_of (arguments_read ask a)) ask)))
 
 -- the message whose `r` is an answer
 abbrev pub answer_message_by : List ℕ → Option Value → Step Message

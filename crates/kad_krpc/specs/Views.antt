@@ -10,12 +10,12 @@ use Rattle.kad_krpc.specs.declared.borrowed.View.{View}
 use Rattle.kad_krpc.specs.declared.borrowed.View.TheVariants as view
 use Rattle.kad_krpc.specs.declared.reader.Decoded.{Decoded}
 use Rattle.kad_krpc.specs.Fields.{Step, Look}
-pub use Rattle.kad_krpc.specs.Asking.{ask_seen, ask_outcome}
+pub use Rattle.kad_krpc.specs.Asking.{ask_seen, ask_outcome, proof_of}
 pub use Rattle.kad_krpc.specs.Answering.{answer_seen, answered}
 
 -- what a view says
 abbrev pub message_seen : View → Message
-message_seen (view.Query tx read_only ask) = message.Query tx.now read_only (ask_seen ask)
+message_seen (view.Query tx read_only arguments ask) = message.Query tx.now read_only (proof_of arguments) (ask_seen ask)
 message_seen (view.Answer tx answer) = message.Answer tx.now (answer_seen answer)
 message_seen (view.Fault tx code text) = message.Fault tx.now code text.now
 

@@ -1,11 +1,11 @@
 //! What a query asks, by its method: each method and its arguments are read, written, copied and told of here.
-ghost use Rattle.std.specs.Prelude.{◌≡◌, ◌++◌, codes, IfOk};
+ghost use Rattle.std.specs.Prelude.{◌≡◌, [], ◌++◌, codes, IfOk};
 ghost use Rattle.kad_bencode.specs.Parts.{member_of};
 ghost use Rattle.kad_bencode.specs.Spelling.{text_of};
 ghost use Rattle.kad_bencode.specs.Written.{Puts, PutsPairs};
 ghost use Rattle.kad_bencode.specs.declared.value.Value.TheVariants as value;
 ghost use Rattle.kad_krpc.specs.Fields.{pair, IsCarried};
-ghost use Rattle.kad_krpc.specs.Asking.{is_word, names, want_of, want_pair, two_ids, port_by, announced_by, find_node_at, get_peers_at, announce_peer_at, get_at, put_by, put_at, rest_at, arguments_at, ask_of, method_in, is_read_only, is_implied, announced, put_pairs, arguments_of, name_of, CarriesForm, read_only_pair, ask_seen, ask_outcome, IsWellPort, IsWellAsk};
+ghost use Rattle.kad_krpc.specs.Asking.{is_word, names, want_of, want_pair, two_ids, port_by, announced_by, find_node_at, get_peers_at, announce_peer_at, get_at, put_by, put_at, rest_at, arguments_at, ask_of, arguments_read, method_in, is_read_only, is_implied, announced, proof_pair, put_pairs, arguments_of, name_of, CarriesForm, read_only_pair, ask_seen, ask_outcome, IsWellPort, IsWellAsk};
 ghost use Rattle.kad_records.specs.Records.{IsWellId};
 
 use crate::fields::{
@@ -14,7 +14,8 @@ use crate::fields::{
 };
 use crate::members::{keys, members};
 use crate::message::{Ask, Key, KrpcFault, Method, Port, Want};
-use kad_base::{Id, List, NoMemory};
+use crate::sender::put_proof;
+use kad_base::{Id, List, NoMemory, Proof};
 use kad_bencode::{Piece, put_part};
 use kad_records::law_id;
 use std::alloc::Global;
@@ -269,14 +270,24 @@ fn read_rest<'a>(method: Method, a: &Piece<'a>, id: Id) -> Result<AskView<'a>, K
     }
 }
 
+/// The same value, where it stands, if it is there.
+fn copied<'a>(value: &Option<Piece<'a>>) -> Option<Piece<'a>>
+    ensures { result ≡ value.now }
+{
+    match value {
+        Some(value) => Some(value.copied()),
+        None => None,
+    }
+}
+
 /// The arguments of a method.
 fn read_arguments<'a>(
     method: Method,
-    arguments: Option<Piece<'a>>,
+    arguments: &Option<Piece<'a>>,
 ) -> Result<AskView<'a>, KrpcFault>
-    ensures { ask_outcome result ≡ arguments_at method arguments.entry }
+    ensures { ask_outcome result ≡ arguments_at method arguments.now }
 {
-    let a = needed_dict(arguments, Key::A)?;
+    let a = needed_dict(copied(arguments), Key::A)?;
     let id = needed_id(a.get(b"id"), Key::Id)?;
     read_rest(method, &a, id)
 }
@@ -284,13 +295,23 @@ fn read_arguments<'a>(
 /// What a query asks. The arguments of a method that isn't known are not read.
 pub(crate) fn read_ask<'a>(
     name: &'a [u8],
-    arguments: Option<Piece<'a>>,
+    arguments: &Option<Piece<'a>>,
 ) -> Result<AskView<'a>, KrpcFault>
-    ensures { ask_outcome result ≡ ask_of name.now arguments.entry }
+    ensures { ask_outcome result ≡ ask_of name.now arguments.now }
 {
     match method_of(name) {
         Some(method) => read_arguments(method, arguments),
         None => Ok(AskView::Other { method: name }),
+    }
+}
+
+/// The arguments that stay with a query; those of a method that isn't known are not read.
+pub(crate) fn kept_arguments<'a>(ask: &AskView, arguments: Option<Piece<'a>>) -> Option<Piece<'a>>
+    ensures { result ≡ arguments_read (ask_seen ask.now) arguments.entry }
+{
+    match ask {
+        AskView::Other { .. } => None,
+        _ => arguments,
     }
 }
 
@@ -299,19 +320,21 @@ pub(crate) fn read_ask<'a>(
 fn put_announced(
     buf: &mut [u8],
     at: usize,
+    proof: &Option<Proof>,
     id: &Id,
     info_hash: &Id,
     port: Port,
     token: &[u8],
 ) -> usize
     ensures { Puts buf.old buf.new at (text_of
-        (value.Dict (announced id.now info_hash.now port token.now))) result }
+        (value.Dict (announced proof.now id.now info_hash.now port token.now))) result }
 {
     match port {
         Port::Given(number) => {
             let at = put_id(buf, at, id);
             let at = put_text(buf, at, b"info_hash", &info_hash.0);
             let at = put_number(buf, at, b"port", number as i64);
+            let at = put_proof(buf, at, proof);
             let at = put_text(buf, at, b"token", token);
             put_part(buf, at, b"e")
         }
@@ -320,6 +343,7 @@ fn put_announced(
             let at = put_part(buf, at, b"12:implied_porti1e");
             let at = put_text(buf, at, b"info_hash", &info_hash.0);
             let at = put_part(buf, at, b"4:porti1e");
+            let at = put_proof(buf, at, proof);
             let at = put_text(buf, at, b"token", token);
             put_part(buf, at, b"e")
         }
@@ -328,11 +352,12 @@ fn put_announced(
 
 /// Puts the arguments that are an identifier.
 #[inline(always)]
-fn put_one_id(buf: &mut [u8], at: usize, id: &Id) -> usize
+fn put_one_id(buf: &mut [u8], at: usize, proof: &Option<Proof>, id: &Id) -> usize
     ensures { Puts buf.old buf.new at (text_of
-        (value.Dict (pair (codes "id") (value.Text id.now.0)))) result }
+        (value.Dict (pair (codes "id") (value.Text id.now.0) ++ proof_pair proof.now))) result }
 {
     let at = put_id(buf, at, id);
+    let at = put_proof(buf, at, proof);
     put_part(buf, at, b"e")
 }
 
@@ -349,52 +374,90 @@ fn put_want(buf: &mut [u8], at: usize, want: Want) -> usize
     }
 }
 
-/// Puts the arguments that are two identifiers, under `id` and a key after it, and whose contacts are wanted.
+/// Puts the arguments that are an identifier and a target, and whose contacts are wanted.
 #[inline(always)]
-fn put_two_ids(buf: &mut [u8], at: usize, id: &Id, key: &[u8], other: &Id, want: Want) -> usize
-    ensures { Puts buf.old buf.new at (text_of
-        (value.Dict (two_ids id.now key.now other.now ++ want_pair want))) result }
+fn put_target(
+    buf: &mut [u8],
+    at: usize,
+    proof: &Option<Proof>,
+    id: &Id,
+    target: &Id,
+    want: Want,
+) -> usize
+    ensures { Puts buf.old buf.new at (text_of (value.Dict (two_ids id.now (proof_pair proof.now)
+        (codes "target") target.now (want_pair want)))) result }
 {
     let at = put_id(buf, at, id);
-    let at = put_text(buf, at, key, &other.0);
+    let at = put_proof(buf, at, proof);
+    let at = put_text(buf, at, b"target", &target.0);
+    let at = put_want(buf, at, want);
+    put_part(buf, at, b"e")
+}
+
+/// Puts the arguments that are an identifier and an info hash, and whose contacts are wanted.
+#[inline(always)]
+fn put_info_hash(
+    buf: &mut [u8],
+    at: usize,
+    proof: &Option<Proof>,
+    id: &Id,
+    info_hash: &Id,
+    want: Want,
+) -> usize
+    ensures { Puts buf.old buf.new at (text_of (value.Dict (two_ids id.now [] (codes "info_hash")
+        info_hash.now (proof_pair proof.now ++ want_pair want)))) result }
+{
+    let at = put_id(buf, at, id);
+    let at = put_text(buf, at, b"info_hash", &info_hash.0);
+    let at = put_proof(buf, at, proof);
     let at = put_want(buf, at, want);
     put_part(buf, at, b"e")
 }
 
 /// Puts the arguments that are a token and a value.
-fn put_putting(buf: &mut [u8], at: usize, id: &Id, token: &[u8], v: &[u8]) -> usize
+fn put_putting(
+    buf: &mut [u8],
+    at: usize,
+    proof: &Option<Proof>,
+    id: &Id,
+    token: &[u8],
+    v: &[u8],
+) -> usize
     requires { IsCarried v.now }
     ensures { Puts buf.old buf.new at (text_of
-        (value.Dict (put_pairs id.now token.now v.now))) result }
+        (value.Dict (put_pairs proof.now id.now token.now v.now))) result }
 {
     let at = put_id(buf, at, id);
+    let at = put_proof(buf, at, proof);
     let at = put_text(buf, at, b"token", token);
     let at = put_form(buf, at, b"v", v);
     put_part(buf, at, b"e")
 }
 
-/// Puts the arguments of a query; those of a method that isn't known are none.
+/// Puts the arguments of a query, with the proof that it brings; those of a method that isn't known are none.
 #[inline(always)]
-pub(crate) fn put_arguments(buf: &mut [u8], at: usize, ask: &Ask) -> usize
+pub(crate) fn put_arguments(buf: &mut [u8], at: usize, proof: &Option<Proof>, ask: &Ask) -> usize
     requires { CarriesForm ask.now }
-    ensures { Puts buf.old buf.new at (text_of (value.Dict (arguments_of ask.now))) result }
+    ensures { Puts buf.old buf.new at (text_of (value.Dict (arguments_of proof.now ask.now))) result }
 {
     match ask {
-        Ask::Ping { id } => put_one_id(buf, at, id),
-        Ask::FindNode { id, target, want } => { put_two_ids(buf, at, id, b"target", target, *want) }
+        Ask::Ping { id } => put_one_id(buf, at, proof, id),
+        Ask::FindNode { id, target, want } => put_target(buf, at, proof, id, target, *want),
         Ask::GetPeers {
             id,
             info_hash,
             want,
-        } => put_two_ids(buf, at, id, b"info_hash", info_hash, *want),
+        } => put_info_hash(buf, at, proof, id, info_hash, *want),
         Ask::AnnouncePeer {
             id,
             info_hash,
             port,
             token,
-        } => put_announced(buf, at, id, info_hash, *port, token.as_slice()),
-        Ask::Get { id, target, want } => { put_two_ids(buf, at, id, b"target", target, *want) }
-        Ask::Put { id, token, v, .. } => put_putting(buf, at, id, token.as_slice(), v.as_slice()),
+        } => put_announced(buf, at, proof, id, info_hash, *port, token.as_slice()),
+        Ask::Get { id, target, want } => put_target(buf, at, proof, id, target, *want),
+        Ask::Put { id, token, v, .. } => {
+            put_putting(buf, at, proof, id, token.as_slice(), v.as_slice())
+        }
         Ask::Other { .. } => put_part(buf, at, b"de"),
     }
 }

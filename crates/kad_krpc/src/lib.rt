@@ -13,6 +13,7 @@ mod owned;
 mod query;
 mod reader;
 mod seal;
+mod sender;
 mod well_typed;
 mod writer;
 
@@ -26,6 +27,7 @@ pub use owned::push_peers;
 pub use query::{find_node_into, get_into, get_peers_into};
 pub use reader::{Decoded, decode, decode_top, decode_view};
 pub use seal::{SealParts, form_is_untagged, parts_of, tag_comes_off, tag_into, with_tag};
+pub use sender::proof_in;
 pub use well_typed::message_is_well_typed;
 pub use writer::{encode, encode_into};
 

@@ -1,15 +1,17 @@
 //! What a datagram may say.
-use kad_base::{Addrs, Bytes, Contacts, Id, Reports};
+use kad_base::{Addrs, Bytes, Contacts, Id, Proof, Reports};
 use kad_bencode::Bad;
 
 /// A message of KRPC (BEP 5): one dictionary, its keys ascending. `tx` is the transaction id, which an answer repeats.
 #[derive(Debug, Drop, PartialEq, Eq)]
 pub enum Message {
     /// `d1:a` the arguments `1:q` the method, where read-only `2:roi1e`, `1:t` the transaction id `1:y1:qe`. A node that
-    /// says that it is read-only answers no query (BEP 43).
+    /// says that it is read-only answers no query (BEP 43). `proof` is that of who asks: `2:sk52:` the public key and X, among
+    /// the arguments, this project's own key.
     Query {
         tx: Bytes,
         read_only: bool,
+        proof: Option<Proof>,
         ask: Ask,
     },
     /// `d1:r` the answer `1:t` the transaction id `1:y1:re`.

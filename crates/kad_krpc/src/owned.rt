@@ -9,6 +9,7 @@ use crate::answer::own_answer;
 use crate::ask::own_ask;
 use crate::borrowed::View;
 use crate::message::Message;
+use crate::sender::proof_in;
 use kad_base::{Addr, Addrs, Bytes, List, NoMemory};
 use kad_bencode::{Items, Piece};
 use kad_records::{Record, Records, read_addr, read_addr6, with_room};
@@ -106,10 +107,21 @@ pub(crate) fn message_of(alloc: Global, view: View) -> Result<Message, NoMemory>
     ensures { IfOk result (λ m. m ≡ message_seen view.entry) }
 {
     match view {
-        View::Query { tx, read_only, ask } => {
+        View::Query {
+            tx,
+            read_only,
+            arguments,
+            ask,
+        } => {
             let tx = List::from_slice(alloc, tx)?;
+            let proof = proof_in(&arguments);
             let ask = own_ask(alloc, ask)?;
-            Ok(Message::Query { tx, read_only, ask })
+            Ok(Message::Query {
+                tx,
+                read_only,
+                proof,
+                ask,
+            })
         }
         View::Answer { tx, answer } => {
             let tx = List::from_slice(alloc, tx)?;

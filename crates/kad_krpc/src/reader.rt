@@ -9,7 +9,7 @@ ghost use Rattle.kad_krpc.specs.Reading.{kind_in, kind_of, code_text_of, query_b
 ghost use Rattle.kad_krpc.specs.Views.{lent_code, lent_error, decoded_view, viewed, message_seen};
 
 use crate::answer::read_answer;
-use crate::ask::{read_ask, read_only};
+use crate::ask::{kept_arguments, read_ask, read_only};
 use crate::borrowed::View;
 use crate::fields::{needed_dict, needed_text};
 use crate::members::{keys, members};
@@ -80,9 +80,15 @@ fn read_query<'a>(
     ensures { viewed result ≡ query_by tx.now q.entry a.entry ro.entry }
 {
     let method = needed_text(q, Key::Q)?;
-    let ask = read_ask(method, a)?;
+    let ask = read_ask(method, &a)?;
+    let arguments = kept_arguments(&ask, a);
     let read_only = read_only(ro);
-    Ok(View::Query { tx, read_only, ask })
+    Ok(View::Query {
+        tx,
+        read_only,
+        arguments,
+        ask,
+    })
 }
 
 fn read_answer_message<'a>(tx: &'a [u8], r: Option<Piece<'a>>) -> Result<View<'a>, KrpcFault>
@@ -174,7 +180,8 @@ pub fn decode_view(bytes: &[u8]) -> Result<View<'_>, KrpcFault>
 }
 
 /// Reads a datagram of any length: what it says, or the first step of the reading that fails. Keys that none of BEP 5, 32,
-/// 43 and 44 names are passed over, but this project's own. Each string is copied once, and the memory taken is in proportion to the datagram.
+/// 43 and 44 names are passed over, but this project's own. Each string is copied once, and the memory taken is in
+/// proportion to the datagram.
 pub fn decode(alloc: Global, bytes: &[u8]) -> Result<Message, KrpcFault>
     // What is read is said so, and what is refused fails so.
     ensures says { IfOk result (Says bytes.now) }

@@ -7,7 +7,7 @@ use crate::answer::law_answer;
 use crate::ask::law_ask;
 use crate::message::Message;
 use kad_base::{Addrs, Contacts, Reports};
-use kad_records::{law_addrs, law_contacts, law_reports};
+use kad_records::{law_addrs, law_contacts, law_proof, law_reports};
 
 pub(crate) fn law_nodes(nodes: &Option<Contacts>)
     ensures { Each IsWellContact nodes.now }
@@ -39,7 +39,10 @@ pub fn message_is_well_typed(message: &Message)
     ensures { IsWell message.now }
 {
     match message {
-        Message::Query { ask, .. } => law_ask(ask),
+        Message::Query { proof, ask, .. } => {
+            law_proof(proof);
+            law_ask(ask);
+        }
         Message::Answer { answer, .. } => law_answer(answer),
         Message::Fault { code, .. } => {
             let _code = *code;

@@ -12,18 +12,25 @@ use crate::ask::{name, put_arguments, put_ro};
 use crate::fields::put_text;
 use crate::message::{Answer, Ask, Message};
 use crate::well_typed::message_is_well_typed;
-use kad_base::{Bytes, List, NoMemory};
+use kad_base::{Bytes, List, NoMemory, Proof};
 use kad_bencode::{put_integer, put_part, put_string};
 use std::alloc::Global;
 
 #[inline(always)]
-fn put_query(buf: &mut [u8], at: usize, tx: &[u8], read_only: bool, ask: &Ask) -> usize
+fn put_query(
+    buf: &mut [u8],
+    at: usize,
+    tx: &[u8],
+    read_only: bool,
+    proof: &Option<Proof>,
+    ask: &Ask,
+) -> usize
     requires { CarriesForm ask.now }
     ensures { Puts buf.old buf.new at (text_of
-        (value.Dict (message_pairs (Message.Query tx.now read_only ask.now)))) result }
+        (value.Dict (message_pairs (Message.Query tx.now read_only proof.now ask.now)))) result }
 {
     let at = put_part(buf, at, b"d1:a");
-    let at = put_arguments(buf, at, ask);
+    let at = put_arguments(buf, at, proof, ask);
     let at = put_text(buf, at, b"q", name(ask));
     let at = put_ro(buf, at, read_only);
     let at = put_text(buf, at, b"t", tx);
@@ -69,9 +76,12 @@ fn put_message(buf: &mut [u8], message: &Message) -> usize
     ensures { Puts buf.old buf.new 0 (form message.now) result }
 {
     match message {
-        Message::Query { tx, read_only, ask } => {
-            put_query(buf, 0, tx.as_slice(), *read_only, ask)
-        }
+        Message::Query {
+            tx,
+            read_only,
+            proof,
+            ask,
+        } => put_query(buf, 0, tx.as_slice(), *read_only, proof, ask),
         Message::Answer { tx, answer } => put_answer_message(buf, 0, tx.as_slice(), answer),
         Message::Fault { tx, code, text } => {
             put_fault(buf, 0, tx.as_slice(), *code, text.as_slice())

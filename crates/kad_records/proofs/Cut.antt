@@ -1,5 +1,5 @@
 -- Records that were written are cut apart again.
-use Rattle.std.proofs.Common.{◌≡◌, ℕ, zero, suc, ◌+◌, ◌*◌, ◌/◌, ◌%◌, ◌<◌, List, [], ◌∷◌, ◌++◌, map, take, drop, get_or, length, Option, Some, None, refl, sym, ap, ◌∙◌, arith, length-append, append_assoc}
+use Rattle.std.proofs.Common.{◌≡◌, ℕ, zero, suc, ◌+◌, ◌*◌, ◌/◌, ◌%◌, ◌<◌, List, [], ◌∷◌, ◌++◌, map, take, drop, get_or, length, Option, Some, None, refl, sym, ap, ◌∙◌, arith, length-append, append_assoc, append-nil}
 use Rattle.std.specs.Prelude.{flat_map}
 use Rattle.std.specs.List.{AllByRecursion, range_with_len}
 use Rattle.std.proofs.Math.Nat.{mul-div_cancel_left, mul-mod_right}
@@ -14,7 +14,7 @@ use Rattle.kad_base.specs.declared.types.Addr.{Addr}
 use Rattle.kad_base.specs.declared.types.Contact.{Contact}
 use Rattle.kad_base.specs.declared.types.Proof.{Proof}
 use Rattle.kad_base.specs.declared.types.Report.{Report}
-use Rattle.kad_records.specs.Records.{port_bytes, ip_bytes, addr_bytes, node_bytes, proof_bytes, proved_bytes, part, port_at, ip_size, ip_in, addr_at, node_in, proved_in, records_in, IsOf, IsNodeOf, HasProof, IsProvedOf, IsWellIp, IsWellProof, IsWellContact, IsWellReport, IsWellAddr}
+use Rattle.kad_records.specs.Records.{port_bytes, ip_bytes, addr_bytes, node_bytes, proof_bytes, proved_bytes, part, port_at, ip_size, ip_in, addr_at, node_in, proof_at, proved_in, records_in, IsOf, IsNodeOf, HasProof, IsProvedOf, IsWellIp, IsWellProof, IsWellContact, IsWellReport, IsWellAddr}
 
 -- ---- parts
 
@@ -142,6 +142,15 @@ one_proved Six id (V4 b) p (Some proof) w l k n h = absurd n
 
 pub proved_one : (f : Family) (r : Report) → IsWellReport r → IsProvedOf f r → (length (proved_bytes r) ≡ proved_size f) × (proved_in f (proved_bytes r) ≡ r)
 proved_one f r w n = one_proved f r.contact.id r.contact.addr.ip r.contact.addr.port r.proof w.0.0 w.0.1.0 w.1 n.0 n.1
+
+-- a proof by itself
+pub proof_one : (proof : Proof) → IsWellProof (Some proof) → (length (proof_bytes (Some proof)) ≡ 52) × (proof_at 0 (proof_bytes (Some proof)) ≡ proof)
+proof_one proof w =
+    let key_is = take_front proof.key proof.x 32 w.0 in
+    let x_is : part 32 20 (proof.key ++ proof.x) ≡ proof.x = ap (λ l. part 32 20 (proof.key ++ l)) (sym (append-nil proof.x)) ∙ part_at proof.key proof.x [] 32 20 w.0 w.1 in (
+      length-append proof.key proof.x ∙ (λ i. w.0 i + w.1 i),
+      (λ i. record { key = key_is i; x = x_is i }),
+    )
 
 -- a peer, of 6 bytes or of 18
 pub addr_one : (f : Family) (a : Addr) → IsWellAddr a → IsOf f a.ip → (length (addr_bytes a) ≡ ip_size f + 2) × (addr_at f 0 (addr_bytes a) ≡ a)

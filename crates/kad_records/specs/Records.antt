@@ -86,9 +86,13 @@ id_at at bytes = record { 0 = part at 20 bytes }
 abbrev pub node_in : Family → List ℕ → Contact
 node_in family bytes = record { id = id_at 0 bytes; addr = addr_at family 20 bytes }
 
--- the proof within the bytes of a node: 32 bytes of public key and 20 of X, after the identifier
+-- the proof that stands at a place: 32 bytes of public key and 20 of X
+abbrev pub proof_at : ℕ → List ℕ → Proof
+proof_at at bytes = record { key = part at 32 bytes; x = part (at + 32) 20 bytes }
+
+-- the proof within the bytes of a node, after the identifier
 abbrev pub proof_in : List ℕ → Proof
-proof_in bytes = record { key = part 20 32 bytes; x = part 52 20 bytes }
+proof_in bytes = proof_at 20 bytes
 
 -- the node with its proof that the bytes of a record are: 78, or 90 of IPv6
 abbrev pub proved_in : Family → List ℕ → Report

@@ -6,8 +6,8 @@ ghost use Rattle.kad_base.specs.declared.types.Report.{Report};
 ghost use Rattle.kad_records.specs.Records.{id_at, node_in, node_bytes, proof_in, proved_in, proved_bytes};
 
 use crate::into::{node_length, proved_length, put_node, put_proved};
-use crate::record::{array_at, read_addr, read_addr6};
-use kad_base::{Addr, Contact, Id, Proof, Report};
+use crate::record::{array_at, read_addr, read_addr6, read_proof};
+use kad_base::{Addr, Contact, Id, Report};
 
 /// A kind of record: what it is read as from so many bytes, and how it is written.
 pub trait Record: Drop {
@@ -63,10 +63,7 @@ fn report_of(bytes: &[u8], addr: Addr) -> Report
 {
     Report {
         contact: contact_of(bytes, addr),
-        proof: Some(Proof {
-            key: array_at(bytes, 20),
-            x: array_at(bytes, 52),
-        }),
+        proof: Some(read_proof(bytes, 20)),
     }
 }
 

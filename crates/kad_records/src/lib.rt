@@ -10,6 +10,6 @@ mod well_typed;
 
 pub use into::{put_peers, put_records};
 pub use kinds::{Node, Node6, Proved, Proved6, Record};
-pub use record::{read_addr, read_addr6, split_record};
+pub use record::{read_addr, read_addr6, read_proof, split_record};
 pub use records::{Records, with_room};
-pub use well_typed::{law_addrs, law_contacts, law_id, law_reports};
+pub use well_typed::{law_addrs, law_contacts, law_id, law_proof, law_reports};

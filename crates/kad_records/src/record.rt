@@ -1,9 +1,9 @@
 //! Addresses and records at a place of a string.
 ghost use Rattle.std.specs.Prelude.{◌≡◌, ◌+◌, ◌<◌, ◌≤◌, ◌↔◌, length, IfSome, IsNone};
 ghost use Rattle.kad_base.specs.declared.types.Family.TheVariants.{Four, Six};
-ghost use Rattle.kad_records.specs.Records.{part, port_at, addr_at, record_at};
+ghost use Rattle.kad_records.specs.Records.{part, port_at, addr_at, proof_at, record_at};
 
-use kad_base::{Addr, Ip};
+use kad_base::{Addr, Ip, Proof};
 
 /// The bytes from a place on.
 pub(crate) fn array_at<const N: usize>(bytes: &[u8], at: usize) -> [u8; N]
@@ -42,6 +42,17 @@ pub fn read_addr6(bytes: &[u8], at: usize) -> Addr
     Addr {
         ip: Ip::V6(array_at(bytes, at)),
         port: read_port(bytes, at + 16),
+    }
+}
+
+/// The proof that stands at a place: public key and X, 52 bytes (this project's own). Takes no memory.
+pub fn read_proof(bytes: &[u8], at: usize) -> Proof
+    requires { at + 52 ≤ length bytes.now }
+    ensures { result ≡ proof_at at bytes.now }
+{
+    Proof {
+        key: array_at(bytes, at),
+        x: array_at(bytes, at + 32),
     }
 }
 

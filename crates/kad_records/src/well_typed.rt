@@ -43,7 +43,8 @@ fn law_contact(contact: &Contact)
     law_addr(&contact.addr);
 }
 
-fn law_proof(proof: &Option<Proof>)
+/// The parts of a proof are as long as their types say.
+pub fn law_proof(proof: &Option<Proof>)
     ensures { IsWellProof proof.now }
 {
     if let Some(proof) = proof {

@@ -74,7 +74,7 @@ too_long bytes long w r lt h = (let few = h.believable in absurd (omega (arith, 
 -- ---- a datagram says one thing, to one id
 
 said_once : (m : Message) (x y : List ℕ) (r t : Reply) → SaysTo x m r → SaysTo y m t → (x ≡ y) × (r ≡ t)
-said_once (message.Query tx read_only ask) x y r t h k = absurd h
+said_once (message.Query tx read_only proof ask) x y r t h k = absurd h
 said_once (message.Answer tx answer) x y r t h k = (sym h.0 ∙ k.0, h.1 ∙ sym k.1)
 said_once (message.Fault tx code text) x y r t h k = (sym h.0 ∙ k.0, h.1 ∙ sym k.1)
 

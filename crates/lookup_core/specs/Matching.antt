@@ -41,7 +41,7 @@ pub record IsQuery (quest : Quest) (queries : List OpenQuery) (drawn : ℕ) (to 
 -- what a message says to the query with this transaction id: an answer, or an error message with its code (BEP 5); a
 -- query says nothing to it
 abbrev pub SaysTo : List ℕ → Message → Reply → Type 0
-SaysTo id (message.Query tx read_only ask) r = ⊥
+SaysTo id (message.Query tx read_only proof ask) r = ⊥
 SaysTo id (message.Answer tx answer) r = (tx ≡ id) × (r ≡ reply.Answer answer)
 SaysTo id (message.Fault tx code text) r = (tx ≡ id) × (r ≡ reply.Error code)
 

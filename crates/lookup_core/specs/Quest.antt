@@ -1,9 +1,10 @@
 -- What a lookup asks, and what of an answer it believes.
-use Rattle.std.specs.Prelude.{ℕ, ◌≤◌, List, [], length, take, map, Option, Some, None, Bool, true, false}
+use Rattle.std.specs.Prelude.{ℕ, ◌≤◌, List, [], length, take, map, Option, Some, None, Bool, true, false, cond}
 use Rattle.kad_base.specs.declared.types.Id.{Id}
 use Rattle.kad_base.specs.declared.types.Contact.{Contact}
 use Rattle.kad_base.specs.declared.types.Family.{Family}
 use Rattle.kad_base.specs.declared.types.Family.TheVariants.{Four, Six}
+use Rattle.kad_base.specs.declared.types.Proof.{Proof}
 use Rattle.kad_base.specs.declared.types.Report.{Report}
 use Rattle.kad_base.specs.declared.types.Policy.{Policy}
 use Rattle.kad_base.specs.declared.types.Policy.TheVariants.{Plain, Puzzled}
@@ -20,16 +21,20 @@ abbrev pub is_six : Family → Bool
 is_six Four = false
 is_six Six = true
 
--- the query of each kind (BEP 5, BEP 44), which asks for contacts of IPv6 or says nothing of whose (BEP 32), and is read-only
--- or not (BEP 43)
-abbrev pub message_of : AskKind → Id → Id → Bool → Bool → ℕ → Message
-message_of FindNode own target six read_only tx = find_node_query own target six read_only tx
-message_of GetPeers own target six read_only tx = get_peers_query own target six read_only tx
-message_of GetItem own target six read_only tx = get_query own target six read_only tx
+-- the proof that a query brings: none if it is read-only
+abbrev pub brought : Bool → Option Proof → Option Proof
+brought read_only proof = cond read_only None proof
+
+-- the query of each kind (BEP 5, BEP 44), which asks for contacts of IPv6 or says nothing of whose (BEP 32), is read-only
+-- or not (BEP 43), and brings this proof of who asks, or none
+abbrev pub message_of : AskKind → Id → Id → Bool → Bool → Option Proof → ℕ → Message
+message_of FindNode own target six read_only proof tx = find_node_query own target six read_only proof tx
+message_of GetPeers own target six read_only proof tx = get_peers_query own target six read_only proof tx
+message_of GetItem own target six read_only proof tx = get_query own target six read_only proof tx
 
 -- the query that a lookup sends
 abbrev pub query_message : Quest → ℕ → Message
-query_message quest tx = message_of quest.kind quest.own quest.target (is_six quest.family) quest.read_only tx
+query_message quest tx = message_of quest.kind quest.own quest.target (is_six quest.family) quest.read_only (brought quest.read_only quest.proof) tx
 
 -- a contact as a report without a proof
 abbrev pub bare : Contact → Report

@@ -16,7 +16,7 @@ mod unsettled;
 pub use ask::Asked;
 pub use gather::{Gathered, Item, ItemList, Token, Tokened, in_order, keep, nothing};
 pub use on_reply::{Answered, Taken};
-pub use quest::{AskKind, Quest};
+pub use quest::{AskKind, Quest, brought};
 pub use receiving::{round_after, stray_more, wait_until};
 pub use reply::{ReplyView, SaidView, read_reply};
 pub use sealed::is_sealed;

@@ -3,10 +3,10 @@ ghost use Rattle.std.specs.Prelude.{◌≡◌, ◌≤◌, take, map, IfOk};
 ghost use Rattle.kad_base.specs.Limits.{max_reports};
 ghost use Rattle.kad_krpc.specs.Form.{form};
 ghost use Rattle.kad_krpc.specs.Views.{answer_seen};
-ghost use Rattle.lookup_core.specs.Quest.{query_message, bare, is_six, part_of, reports_of};
+ghost use Rattle.lookup_core.specs.Quest.{query_message, bare, brought, is_six, part_of, reports_of};
 
 use kad_base::limits::MAX_REPORTS;
-use kad_base::{Contact, Family, Id, List, NoMemory, Policy, Report, Reports};
+use kad_base::{Contact, Family, Id, List, NoMemory, Policy, Proof, Report, Reports};
 use kad_krpc::{AnswerView, find_node_into, get_into, get_peers_into};
 use kad_records::{Record, Records, with_room};
 use std::alloc::Global;
@@ -24,7 +24,8 @@ pub enum AskKind {
 
 /// What a lookup asks, and what it believes: `own` asks for `target` in the network of `family`, `policy` says which
 /// reports may be believed, `timeout` how long to wait for an answer, in milliseconds, `sealed` whether a reply has to
-/// carry a tag that is accepted, and `read_only` whether the node answers no queries, and says so (BEP 43).
+/// carry a tag that is accepted, and `read_only` whether the node answers no queries, and says so (BEP 43). `proof` is the
+/// proof of the node's own identifier, which its queries bring unless it is read-only.
 #[derive(Clone, Copy, Debug, PartialEq, Eq)]
 pub struct Quest {
     pub own: Id,
@@ -35,6 +36,7 @@ pub struct Quest {
     pub timeout: u32,
     pub sealed: bool,
     pub read_only: bool,
+    pub proof: Option<Proof>,
 }
 
 /// Whether it is the network of IPv6.
@@ -45,6 +47,16 @@ fn is_six(family: Family) -> bool
         Family::Four => false,
         Family::Six => true,
     }
+}
+
+/// The proof that a query brings: a read-only one brings none, since who answers no queries is taken into no table (BEP 43).
+pub fn brought(read_only: bool, proof: &Option<Proof>) -> Option<Proof>
+    ensures { result ≡ brought read_only proof.now }
+{
+    if read_only {
+        return None;
+    }
+    *proof
 }
 
 /// The first contacts as reports without a proof, copied out of their datagram.
@@ -96,19 +108,23 @@ fn first_reports<R: Record<Item = Report>>(
 
 impl Quest {
     /// Writes the query under this transaction id in front of `buf`, and answers its length.
-    pub fn query_into(&self, buf: &mut [u8; 160], tx: u32) -> usize
-        ensures within { result ≤ 160 }
+    pub fn query_into(&self, buf: &mut [u8; 192], tx: u32) -> usize
+        ensures within { result ≤ 192 }
         ensures form { take result buf.new ≡ form (query_message self.now tx) }
     {
         let six = is_six(self.family);
+        let read_only = self.read_only;
+        let proof = brought(read_only, &self.proof);
         match self.kind {
             AskKind::FindNode => {
-                find_node_into(buf, &self.own, &self.target, six, self.read_only, tx)
+                find_node_into(buf, &self.own, &self.target, six, read_only, &proof, tx)
             }
             AskKind::GetPeers => {
-                get_peers_into(buf, &self.own, &self.target, six, self.read_only, tx)
+                get_peers_into(buf, &self.own, &self.target, six, read_only, &proof, tx)
             }
-            AskKind::GetItem => get_into(buf, &self.own, &self.target, six, self.read_only, tx),
+            AskKind::GetItem => {
+                get_into(buf, &self.own, &self.target, six, read_only, &proof, tx)
+            }
         }
     }
 

@@ -1,5 +1,5 @@
 -- What a lookup promises: its journal, the table that comes back, and what holds where it ended early.
-use Rattle.std.specs.Prelude.{◌≡◌, ◌≢◌, ◌⊎◌, ℕ, ◌+◌, ◌==◌, filter, ◌<◌, ◌≤◌, List, [], ◌∷◌, ◌++◌, length, map, Option, Result, IfOk, IfErr, IsErrOf, false, true}
+use Rattle.std.specs.Prelude.{◌≡◌, ◌≢◌, ◌⊎◌, ℕ, ◌+◌, ◌==◌, filter, ◌<◌, ◌≤◌, List, [], ◌∷◌, ◌++◌, length, map, Option, None, Result, IfOk, IfErr, IsErrOf, false, true}
 use Rattle.std.specs.List.{All, flat_map}
 use Rattle.std.specs.List.Sorted.{IsStrictlySortedBy}
 use Rattle.kad_base.specs.declared.types.Addr.{Addr}
@@ -48,7 +48,7 @@ setting_of look = record { own = look.own; target = look.target; k = look.k; pat
 
 -- what it asks, and what it believes
 abbrev pub quest_of : LookSetting → Quest
-quest_of look = record { own = look.own; target = look.target; policy = look.policy; kind = look.kind; family = look.family; timeout = look.timeout; sealed = look.sealed; read_only = true }
+quest_of look = record { own = look.own; target = look.target; policy = look.policy; kind = look.kind; family = look.family; timeout = look.timeout; sealed = look.sealed; read_only = true; proof = None }
 
 -- the setting is within the limits
 pub record IsWithinLimits (look : LookSetting) : Type 0 where

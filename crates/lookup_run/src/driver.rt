@@ -44,6 +44,7 @@ fn seeds_of(table: &mut Table, look: &LookSetting) -> Result<Contacts, NoMemory>
         TableReply::NoMemory => Err(NoMemory),
         TableReply::Seen { .. } => unreachable!(),
         TableReply::Gone { .. } => unreachable!(),
+        TableReply::Reports { .. } => unreachable!(),
         TableReply::Crowded => unreachable!(),
     }
 }

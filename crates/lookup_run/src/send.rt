@@ -25,7 +25,7 @@ pub(crate) fn send_query<L: Link>(link: &mut L, look: &LookSetting, asked: &Aske
     ensures send_faults { L.send_faults link.old ≤ L.send_faults link.new }
     ensures kept { L.kept link.new ≡ L.kept link.old }
 {
-    let mut buf = [0u8; 160];
+    let mut buf = [0u8; 192];
     let len = look.quest().query_into(&mut buf, asked.tx);
     match link.send(asked.contact.addr, &buf[..len]) {
         Ok(()) => true,

@@ -58,6 +58,7 @@ impl LookSetting {
             timeout: self.timeout,
             sealed: self.sealed,
             read_only: true,
+            proof: None,
         }
     }
 }

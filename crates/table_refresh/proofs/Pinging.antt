@@ -1,5 +1,5 @@
 -- The ping, spelled out: an identifier has 20 bytes, and a transaction id four.
-use Rattle.std.proofs.Common.{◌≡◌, ℕ, true, List, [], ◌∷◌, ◌++◌, length, pos, ap, ◌∙◌, append-nil, append_assoc}
+use Rattle.std.proofs.Common.{◌≡◌, ℕ, true, List, [], ◌∷◌, ◌++◌, length, pos, None, ap, ◌∙◌, append-nil, append_assoc}
 use Rattle.std.specs.Prelude.{codes}
 use Rattle.kad_base.specs.declared.types.Id.{Id}
 use Rattle.kad_bencode.specs.Spelling.{string_text, pairs_text, text_of}
@@ -26,10 +26,10 @@ id_text id a =
     ∙ ap (λ l. codes "d" ++ l) (one_joined (string_text (codes "id")) (codes "20:" ++ id.0) (codes "e"))
 
 -- the read-only ping of a node
-pub ping_text : (own : Id) (tx : List ℕ) → length own.0 ≡ 20 → length tx ≡ 4 → form (message.Query tx true (Ping own)) ≡ codes "d1:ad2:id20:" ++ own.0 ++ codes "e1:q4:ping2:roi1e1:t4:" ++ tx ++ codes "1:y1:qe"
+pub ping_text : (own : Id) (tx : List ℕ) → length own.0 ≡ 20 → length tx ≡ 4 → form (message.Query tx true None (Ping own)) ≡ codes "d1:ad2:id20:" ++ own.0 ++ codes "e1:q4:ping2:roi1e1:t4:" ++ tx ++ codes "1:y1:qe"
 unfolding form
 ping_text own tx a t =
-    text_of-dict (message_pairs (message.Query tx true (Ping own)))
+    text_of-dict (message_pairs (message.Query tx true None (Ping own)))
     ∙ (λ i. codes "d" ++ pairs_text (
     record { key = codes "a"; value = id_text own a i }
     ∷ record { key = codes "q"; value = text_of-text (codes "ping") i }

@@ -62,7 +62,7 @@ pinged_of all rows = flat_map (pinged_in all) rows
 
 -- the ping (BEP 5), read-only (BEP 43), under the transaction id that is the bytes of a word
 abbrev pub ping : Id → ℕ → Message
-ping own tx = message.Query (word_bytes tx) true (Ping own)
+ping own tx = message.Query (word_bytes tx) true None (Ping own)
 
 -- ---- what replies to a ping
 

@@ -30,6 +30,7 @@ pub(crate) fn notify_failed(table: &mut Table, contact: Contact) -> bool
         TableReply::Gone { .. } => false,
         TableReply::Seen { .. }
         | TableReply::List { .. }
+        | TableReply::Reports { .. }
         | TableReply::Crowded
         | TableReply::NoMemory => unreachable!(),
     }

@@ -16,7 +16,7 @@ announce_to-requires-clause-place g c =
 pub returns-in_err-sent-clause-err : goal.returns-in_err-sent-clause-err
 returns-in_err-sent-clause-err g c =
     let a = asks_of c.args.said.now in
-    let made = some_made c.args.read_only c.args.words.now.seed c.args.words.now.place a c.args.tokens.now c.args.found.now c.loop-contact.contact-index c.loop-contact.sent _ _ c.loop-contact.invariant.sends in
+    let made = some_made c.args.read_only c.args.proof c.args.words.now.seed c.args.words.now.place a c.args.tokens.now c.args.found.now c.loop-contact.contact-index c.loop-contact.sent _ _ c.loop-contact.invariant.sends in
     any_err _ _ (told_still _ _ _ _ (ap g.L.Link.told c.in_err-sent.ensures.err) made)
 
 pub loop-contact-preserved : goal.loop-contact-preserved
@@ -24,7 +24,7 @@ loop-contact-preserved g c =
     let a = asks_of c.args.said.now in
     let i = c.loop-contact.invariant in
     record {
-      sends = sends_more c.args.read_only c.args.words.now c.loop-contact.words a c.args.tokens.now c.args.found.now c.loop-contact.contact-index _ c.loop-contact.sent c.in_ok-sent.field-0 _ _ _ c.loop-contact-test.true i.words i.sends c.in_ok-sent.ensures.ok;
+      sends = sends_more c.args.read_only c.args.proof c.args.words.now c.loop-contact.words a c.args.tokens.now c.args.found.now c.loop-contact.contact-index _ c.loop-contact.sent c.in_ok-sent.field-0 _ _ _ c.loop-contact-test.true i.words i.sends c.in_ok-sent.ensures.ok;
       words = words_more c.args.words.now c.loop-contact.words c.announce_to.new.words c.args.tokens.now c.args.found.now c.loop-contact.contact-index _ c.loop-contact-test.true i.words c.in_ok-sent.ensures.drawn;
       few = (let b = i.few in let d = c.in_ok-sent.ensures.most in omega (arith, b, d));
       faults = c.announce_to.ensures.recv_faults ∙ i.faults;

@@ -1,8 +1,13 @@
+use Rattle.std.proofs.Common.{◌++◌}
 use Rattle.std.specs.Prelude.{codes}
 use Rattle.kad_bencode.specs.declared.value.Value.TheVariants.{Text}
-use Rattle.kad_bencode.proofs.Putting.{puts_closed}
+use Rattle.kad_bencode.proofs.Putting.{puts_more, puts_closed}
 use Rattle.kad_krpc.specs.Fields.{pair}
+use Rattle.kad_krpc.specs.Asking.{proof_pair}
 use Rattle.kad_krpc.proofs.ask.put_one_id.Goals as goal
 
 pub returns : goal.returns
-returns c = puts_closed (pair (codes "id") (Text c.args.id.now.0)) c.put_id-at.ensures c.put_part.ensures
+returns c =
+    let i = pair (codes "id") (Text c.args.id.now.0) in
+    let k = proof_pair c.args.proof.now in
+    puts_closed (i ++ k) (puts_more i k c.put_id-at.ensures c.put_proof-at.ensures) c.put_part.ensures

@@ -4,11 +4,16 @@ use Rattle.kad_bencode.specs.Naming.{named}
 use Rattle.kad_bencode.specs.declared.value.Value.TheVariants.{Text}
 use Rattle.kad_bencode.proofs.Putting.{puts_more, puts_closed}
 use Rattle.kad_krpc.specs.Fields.{pair}
+use Rattle.kad_krpc.specs.Asking.{proof_pair}
 use Rattle.kad_krpc.proofs.ask.put_putting.Goals as goal
 
 pub returns : goal.returns
 returns c =
     let i = pair (codes "id") (Text c.args.id.now.0) in
+    let k = proof_pair c.args.proof.now in
     let t = pair (codes "token") (Text c.args.token.now) in
     let v = pair (codes "v") (named c.args.v.now) in
-    puts_closed (i ++ t ++ v) (puts_more (i ++ t) v (puts_more i t c.put_id-at.ensures c.put_text-at.ensures) c.put_form-at.ensures) c.put_part.ensures
+    puts_closed (i ++ k ++ t ++ v)
+    (puts_more (i ++ k ++ t) v
+    (puts_more (i ++ k) t
+    (puts_more i k c.put_id-at.ensures c.put_proof-at.ensures) c.put_text-at.ensures) c.put_form-at.ensures) c.put_part.ensures

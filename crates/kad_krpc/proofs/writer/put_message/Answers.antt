@@ -15,7 +15,7 @@ pub returns-in-Query : goal.returns-in-Query
 unfolding form
 returns-in-Query c =
     subst (λ m. Puts c.args.buf.now c.put_query.new.buf 0 (text_of (Dict (message_pairs m))) c.put_query.result) (sym c.in-Query.is)
-    (puts_same (ap (λ tx. text_of (Dict (message_pairs (Message.Query tx c.in-Query.read_only c.in-Query.ask)))) (sym c.as_slice.ensures)) c.put_query.ensures)
+    (puts_same (ap (λ tx. text_of (Dict (message_pairs (Message.Query tx c.in-Query.read_only c.in-Query.proof c.in-Query.ask)))) (sym c.as_slice.ensures)) c.put_query.ensures)
 
 pub returns-in-Answer : goal.returns-in-Answer
 unfolding form
