@@ -24,7 +24,10 @@ use Rattle.bucket_tree.proofs.Ids.{same_id-contact}
 use Rattle.bucket_tree.proofs.Places.{covers, one-covers}
 use Rattle.sibling_list.specs.Siblings.{SiblingList}
 use Rattle.contact_table.specs.TableState.{TableState, siblings_of}
-use Rattle.contact_table.specs.TableStep.{with_rows, seen_siblings, failed_siblings}
+use Rattle.contact_table.specs.TableStep.{with_rows, after_seen, seen_siblings, failed_siblings}
+use Rattle.contact_table.specs.TakenIn.{IsTakenIn}
+use Rattle.contact_table.specs.Told.{held_by}
+use Rattle.contact_table.specs.Vouched.{Proofs, of_held}
 use Rattle.contact_table.specs.RowsAfter.{put_rows, needs_split, taken, seen_row, seen_rows, failed_row, failed_rows}
 
 put-past : (f : RowState → List RowState) (id : Id) (front rest : List RowState) → length (filter (covers id) front) ≡ 0 → put_rows f id (front ++ rest) ≡ front ++ put_rows f id rest
@@ -255,30 +258,53 @@ module _ (own : Id) (k b : ℕ) where
   failed-is c rows after Replaced s step = in-its-row c rows after Replaced s step
 
 -- the table from its parts
-abbrev pub view_of : BucketsState → List Contact → ℕ → TableState
-view_of t siblings n = record { own = t.own; k = t.k; b = t.b; rows = t.rows; siblings = siblings; per_address = n }
+abbrev pub view_of : BucketsState → List Contact → ℕ → Proofs → TableState
+view_of t siblings n proofs = record { own = t.own; k = t.k; b = t.b; rows = t.rows; siblings = siblings; per_address = n; proofs = proofs }
 
-abbrev parts : Id → ℕ → ℕ → List RowState → List Contact → ℕ → TableState
-parts own k b rows siblings n = record { own = own; k = k; b = b; rows = rows; siblings = siblings; per_address = n }
+abbrev parts : Id → ℕ → ℕ → List RowState → List Contact → ℕ → Proofs → TableState
+parts own k b rows siblings n proofs = record { own = own; k = k; b = b; rows = rows; siblings = siblings; per_address = n; proofs = proofs }
 
 abbrev list_with : Id → List Contact → SiblingList
 list_with own list = record { own = own; list = list }
 
-same-parts : (o o' : Id) (k k' b b' : ℕ) (r r' : List RowState) (l l' : List Contact) (n : ℕ) → o ≡ o' → k ≡ k' → b ≡ b' → r ≡ r' → l ≡ l' → parts o k b r l n ≡ parts o' k' b' r' l' n
-same-parts o o' k k' b b' r r' l l' n e f g h i = cc
+same-parts : (o o' : Id) (k k' b b' : ℕ) (r r' : List RowState) (l l' : List Contact) (n : ℕ) (p p' : Proofs) → o ≡ o' → k ≡ k' → b ≡ b' → r ≡ r' → l ≡ l' → p ≡ p' → parts o k b r l n p ≡ parts o' k' b' r' l' n p'
+same-parts o o' k k' b b' r r' l l' n p p' e f g h i j = cc
 
-pub table-seen : (t : BucketsState) (s : SiblingList) (t' : BucketsState) (s' : SiblingList) (whole : TableState) (n : ℕ) (c : Contact) (seen : Seen) → view_of t s.list n ≡ whole → s.own ≡ t.own → SoundRows t.own t.k t.b t.rows
-    → SeenStep t.own t.k t.b c t.rows seen t'.rows → t'.own ≡ t.own → t'.k ≡ t.k → t'.b ≡ t.b → s'.list ≡ seen_siblings s c seen
-    → view_of t' s'.list n ≡ with_rows whole (seen_rows whole.own whole.k whole.b c whole.rows) (seen_siblings (siblings_of whole) c seen)
-table-seen t s t' s' whole n c seen v own sound step o k b l =
-    let mine : seen_siblings s c seen ≡ seen_siblings (list_with t.own s.list) c seen = ap (λ (i : Id). seen_siblings (list_with i s.list) c seen) own in
-    same-parts t'.own t.own t'.k t.k t'.b t.b t'.rows (seen_rows t.own t.k t.b c t.rows) s'.list (seen_siblings (list_with t.own s.list) c seen) n o k b (seen-is t.own t.k t.b c t.rows t'.rows seen sound step) (l ∙ mine)
-    ∙ ap (λ (w : TableState). with_rows w (seen_rows w.own w.k w.b c w.rows) (seen_siblings (siblings_of w) c seen)) v
+same-held : (r r' : List RowState) (l l' : List Contact) (p : Proofs) → r ≡ r' → l ≡ l' → of_held (held_by r l) p ≡ of_held (held_by r' l') p
+same-held r r' l l' p e f = ap (λ (x : List RowState). of_held (held_by x l) p) e ∙ ap (λ (x : List Contact). of_held (held_by r' x) p) f
 
-pub table-failed : (t : BucketsState) (s : SiblingList) (t' : BucketsState) (s' : SiblingList) (whole : TableState) (n : ℕ) (c : Contact) (gone : Gone) → view_of t s.list n ≡ whole → s.own ≡ t.own → SoundRows t.own t.k t.b t.rows
-    → FailedStep c t.rows gone t'.rows → t'.own ≡ t.own → t'.k ≡ t.k → t'.b ≡ t.b → s'.list ≡ failed_siblings s c gone
-    → view_of t' s'.list n ≡ with_rows whole (failed_rows gone c whole.rows) (failed_siblings (siblings_of whole) c gone)
-table-failed t s t' s' whole n c gone v own sound step o k b l =
-    let mine : failed_siblings s c gone ≡ failed_siblings (list_with t.own s.list) c gone = ap (λ (i : Id). failed_siblings (list_with i s.list) c gone) own in
-    same-parts t'.own t.own t'.k t.k t'.b t.b t'.rows (failed_rows gone c t.rows) s'.list (failed_siblings (list_with t.own s.list) c gone) n o k b (failed-is t.own t.k t.b c t.rows t'.rows gone sound step) (l ∙ mine)
-    ∙ ap (λ (w : TableState). with_rows w (failed_rows gone c w.rows) (failed_siblings (siblings_of w) c gone)) v
+-- f says which proofs a call notes, and v' has those of them that stand
+pub table-seen : (t : BucketsState) (s : SiblingList) (t' : BucketsState) (s' : SiblingList) (whole : TableState) (n : ℕ) (c : Contact) (seen : Seen) (f : Proofs → Proofs) (v v' : Proofs) → view_of t s.list n (of_held (held_by t.rows s.list) v) ≡ whole → s.own ≡ t.own → SoundRows t.own t.k t.b t.rows
+    → IsTakenIn t s c seen t' s' → of_held (held_by t'.rows s'.list) v' ≡ of_held (held_by t'.rows s'.list) (f (of_held (held_by t.rows s.list) v))
+    → view_of t' s'.list n (of_held (held_by t'.rows s'.list) v') ≡ after_seen whole c seen (f whole.proofs)
+table-seen t s t' s' whole n c seen f v v' view own sound taken stands =
+    let noted = f (of_held (held_by t.rows s.list) v) in
+    let rows = seen_rows t.own t.k t.b c t.rows in
+    let list = seen_siblings (list_with t.own s.list) c seen in
+    let rows_are : t'.rows ≡ rows = seen-is t.own t.k t.b c t.rows t'.rows seen sound taken.step in
+    let list_is : s'.list ≡ list = taken.list ∙ ap (λ (i : Id). seen_siblings (list_with i s.list) c seen) own in
+    same-parts t'.own t.own t'.k t.k t'.b t.b t'.rows rows s'.list list n (of_held (held_by t'.rows s'.list) v') (of_held (held_by rows list) noted) taken.own taken.k taken.b rows_are list_is
+    (stands ∙ same-held t'.rows rows s'.list list noted rows_are list_is)
+    ∙ ap (λ (w : TableState). after_seen w c seen (f w.proofs)) view
+
+pub table-failed : (t : BucketsState) (s : SiblingList) (t' : BucketsState) (s' : SiblingList) (whole : TableState) (n : ℕ) (c : Contact) (gone : Gone) (v : Proofs) → view_of t s.list n (of_held (held_by t.rows s.list) v) ≡ whole → s.own ≡ t.own → SoundRows t.own t.k t.b t.rows
+    → FailedStep c t.rows gone t'.rows → t'.own ≡ t.own → t'.k ≡ t.k → t'.b ≡ t.b → s'.list ≡ failed_siblings s c gone → of_held (held_by t'.rows s'.list) v ≡ of_held (held_by t'.rows s'.list) (of_held (held_by t.rows s.list) v)
+    → view_of t' s'.list n (of_held (held_by t'.rows s'.list) v) ≡ with_rows whole (failed_rows gone c whole.rows) (failed_siblings (siblings_of whole) c gone) whole.proofs
+table-failed t s t' s' whole n c gone v view own sound step o k b l stands =
+    let stood = of_held (held_by t.rows s.list) v in
+    let rows = failed_rows gone c t.rows in
+    let list = failed_siblings (list_with t.own s.list) c gone in
+    let rows_are : t'.rows ≡ rows = failed-is t.own t.k t.b c t.rows t'.rows gone sound step in
+    let list_is : s'.list ≡ list = l ∙ ap (λ (i : Id). failed_siblings (list_with i s.list) c gone) own in
+    same-parts t'.own t.own t'.k t.k t'.b t.b t'.rows rows s'.list list n (of_held (held_by t'.rows s'.list) v) (of_held (held_by rows list) stood) o k b rows_are list_is
+    (stands ∙ same-held t'.rows rows s'.list list stood rows_are list_is)
+    ∙ ap (λ (w : TableState). with_rows w (failed_rows gone c w.rows) (failed_siblings (siblings_of w) c gone) w.proofs) view
+
+-- a call that ran out of memory
+pub table-same : (t t' : BucketsState) (s s' : SiblingList) (whole : TableState) (n : ℕ) (v v' : Proofs) → view_of t s.list n (of_held (held_by t.rows s.list) v) ≡ whole → t' ≡ t → s' ≡ s → of_held (held_by t.rows s.list) v' ≡ of_held (held_by t.rows s.list) v
+    → view_of t' s'.list n (of_held (held_by t'.rows s'.list) v') ≡ whole
+table-same t t' s s' whole n v v' view e f same =
+    ap (λ (x : BucketsState). view_of x s'.list n (of_held (held_by x.rows s'.list) v')) e
+    ∙ ap (λ (x : SiblingList). view_of t x.list n (of_held (held_by t.rows x.list) v')) f
+    ∙ ap (view_of t s.list n) same
+    ∙ view

@@ -13,15 +13,17 @@ use Rattle.kad_base.specs.Serial.{IsRun, left_by}
 use Rattle.kad_base.specs.Contacts.{same, among}
 use Rattle.kad_base.specs.Hosts.{host}
 use Rattle.kad_base.proofs.Contacts.{contact_total, same_exact, same_itself}
+use Rattle.bucket_tree.specs.declared.types.Seen.{Seen}
 use Rattle.contact_table.specs.declared.calls.TableCall.{TableCall}
-use Rattle.contact_table.specs.declared.calls.TableCall.TheVariants.{Seen as Seen_call, Failed, Closest}
+use Rattle.contact_table.specs.declared.calls.TableCall.TheVariants.{Seen as Seen_call, Vouched, Failed, Closest, Vouchers}
 use Rattle.contact_table.specs.declared.calls.TableReply.{TableReply}
-use Rattle.contact_table.specs.declared.calls.TableReply.TheVariants.{Seen as Seen_reply, Gone as Gone_reply, List as List_reply, Crowded, NoMemory}
+use Rattle.contact_table.specs.declared.calls.TableReply.TheVariants.{Seen as Seen_reply, Gone as Gone_reply, List as List_reply, Reports as Reports_reply, Crowded, NoMemory}
 use Rattle.contact_table.specs.RowsAfter.{seen_rows, failed_rows}
 use Rattle.contact_table.specs.TableState.{TableState, SoundTable, siblings_of}
-use Rattle.contact_table.specs.TableStep.{TableMay, TableStep, table_after, seen_siblings, failed_siblings}
+use Rattle.contact_table.specs.TableStep.{TableMay, SeenReplies, TableStep, table_after, after_seen, seen_siblings, failed_siblings}
 use Rattle.contact_table.specs.Told.{kept_in, held_by, held_in, limited_table}
 use Rattle.contact_table.specs.Crowded.{IsCrowded, HasFew}
+use Rattle.contact_table.specs.Vouched.{Proofs, noted}
 use Rattle.contact_table.proofs.Holding.{seen-holds, failed-holds}
 use Rattle.contact_table.proofs.Newness.{new-or-old, all-none, passes-among}
 use Rattle.contact_table.proofs.StaysSound.{step-sound, limited-sound}
@@ -127,8 +129,8 @@ few-fewer n held after few all limited h cs crowd =
 abbrev Few : TableState → Type 0
 Few s = HasFew s.per_address (held_in s)
 
-pub step-few : (s : TableState) (role : ℕ) (call : TableCall) (x : TableReply) → SoundTable s → TableStep s role call x → Few s → Few (table_after s role call x)
-step-few s role (Seen_call c) (Seen_reply seen) q t few =
+after-few : (s : TableState) (c : Contact) (seen : Seen) (proofs : Proofs) → SoundTable s → SeenReplies s c (Seen_reply seen) → Few s → Few (after_seen s c seen proofs)
+after-few s c seen proofs q t few =
     let rows = seen_rows s.own s.k s.b c s.rows in
     let after = held_by rows (seen_siblings (siblings_of s) c seen) in
     new-or-old (HasFew s.per_address after) s.own s.rows c
@@ -136,18 +138,30 @@ step-few s role (Seen_call c) (Seen_reply seen) q t few =
     (seen-holds (λ (x : Contact). x ≢ c → Contains (held_in s) x) s.own s.k s.b c s.rows rows seen s.siblings q.buckets.rows t.0 (λ _ ne. absurd (ne refl)) (all-with (Contains (held_in s)) (λ (x : Contact). x ≢ c → Contains (held_in s) x) (held_in s) (λ x has f ne. f) (All-contains_itself (held_in s)))))
     (λ old. few-fewer s.per_address (held_in s) after few
     (seen-holds (Contains (held_in s)) s.own s.k s.b c s.rows rows seen s.siblings q.buckets.rows t.0 (λ new. absurd (old new)) (All-contains_itself (held_in s))))
+
+pub step-few : (s : TableState) (role : ℕ) (call : TableCall) (x : TableReply) → SoundTable s → TableStep s role call x → Few s → Few (table_after s role call x)
+step-few s role (Seen_call c) (Seen_reply seen) q t few = after-few s c seen s.proofs q t few
 step-few s role (Seen_call c) (Gone_reply x) q t few = few
 step-few s role (Seen_call c) (List_reply x) q t few = few
 step-few s role (Seen_call c) Crowded q t few = few
 step-few s role (Seen_call c) NoMemory q t few = few
+step-few s role (Seen_call c) (Reports_reply x) q t few = few
+step-few s role (Vouched c p) (Seen_reply seen) q t few = after-few s c seen (noted c p s.proofs) q t few
+step-few s role (Vouched c p) (Gone_reply x) q t few = few
+step-few s role (Vouched c p) (List_reply x) q t few = few
+step-few s role (Vouched c p) (Reports_reply x) q t few = few
+step-few s role (Vouched c p) Crowded q t few = few
+step-few s role (Vouched c p) NoMemory q t few = few
 step-few s role (Failed c) (Gone_reply gone) q t few =
     few-fewer s.per_address (held_in s) (held_by (failed_rows gone c s.rows) (failed_siblings (siblings_of s) c gone)) few
     (failed-holds (Contains (held_in s)) s.own c s.rows gone s.siblings (All-contains_itself (held_in s)))
 step-few s role (Failed c) (Seen_reply x) q t few = few
 step-few s role (Failed c) (List_reply x) q t few = few
+step-few s role (Failed c) (Reports_reply x) q t few = few
 step-few s role (Failed c) Crowded q t few = few
 step-few s role (Failed c) NoMemory q t few = few
 step-few s role (Closest target n) x q t few = few
+step-few s role (Vouchers target n) x q t few = few
 
 pub run-few : (s : TableState) (run : List (Made TableCall TableReply)) → SoundTable s → IsRun TableMay TableStep table_after s run → Few s → Few (left_by table_after s run)
 run-few s [] q r few = few
@@ -169,12 +183,21 @@ left-limit s role (Seen_call c) (Gone_reply x) = refl
 left-limit s role (Seen_call c) (List_reply x) = refl
 left-limit s role (Seen_call c) Crowded = refl
 left-limit s role (Seen_call c) NoMemory = refl
+left-limit s role (Seen_call c) (Reports_reply x) = refl
+left-limit s role (Vouched c p) (Seen_reply seen) = refl
+left-limit s role (Vouched c p) (Gone_reply x) = refl
+left-limit s role (Vouched c p) (List_reply x) = refl
+left-limit s role (Vouched c p) (Reports_reply x) = refl
+left-limit s role (Vouched c p) Crowded = refl
+left-limit s role (Vouched c p) NoMemory = refl
 left-limit s role (Failed c) (Gone_reply gone) = refl
 left-limit s role (Failed c) (Seen_reply x) = refl
 left-limit s role (Failed c) (List_reply x) = refl
+left-limit s role (Failed c) (Reports_reply x) = refl
 left-limit s role (Failed c) Crowded = refl
 left-limit s role (Failed c) NoMemory = refl
 left-limit s role (Closest target n) x = refl
+left-limit s role (Vouchers target n) x = refl
 
 -- no call changes the limit
 pub run-limit : (s : TableState) (run : List (Made TableCall TableReply)) → (left_by table_after s run).per_address ≡ s.per_address

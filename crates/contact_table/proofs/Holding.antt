@@ -27,14 +27,15 @@ use Rattle.bucket_tree.proofs.RowKept.{all-without, all-ended, all-room}
 use Rattle.bucket_tree.proofs.RowSteps.{mark-contacts}
 use Rattle.sibling_list.specs.Siblings.{with_one, without_one}
 use Rattle.contact_table.specs.declared.calls.TableCall.{TableCall}
-use Rattle.contact_table.specs.declared.calls.TableCall.TheVariants.{Seen as Seen_call, Failed, Closest}
+use Rattle.contact_table.specs.declared.calls.TableCall.TheVariants.{Seen as Seen_call, Vouched, Failed, Closest, Vouchers}
 use Rattle.contact_table.specs.declared.calls.TableReply.{TableReply}
-use Rattle.contact_table.specs.declared.calls.TableReply.TheVariants.{Seen as Seen_reply, Gone as Gone_reply, List as List_reply, Crowded, NoMemory}
+use Rattle.contact_table.specs.declared.calls.TableReply.TheVariants.{Seen as Seen_reply, Gone as Gone_reply, List as List_reply, Reports as Reports_reply, Crowded, NoMemory}
 use Rattle.contact_table.specs.RowsAfter.{put_rows, needs_split, taken, seen_row, seen_rows, failed_row, failed_rows}
 use Rattle.contact_table.specs.TableState.{TableState, siblings_of}
-use Rattle.contact_table.specs.TableStep.{table_after, contacts_of, seen_siblings, failed_siblings}
+use Rattle.contact_table.specs.TableStep.{table_after, after_seen, contacts_of, seen_siblings, failed_siblings}
 use Rattle.contact_table.specs.Told.{told_in, told_by, kept_in, held_by, held_in, limited_table, new_table}
 use Rattle.contact_table.specs.Crowded.{IsNew}
+use Rattle.contact_table.specs.Vouched.{Proofs, noted}
 use Rattle.contact_table.proofs.Determined.{seen-is}
 use Rattle.contact_table.proofs.Newness.{passes-among, row-new, new-or-old}
 
@@ -159,20 +160,31 @@ module _ (P : Contact → Type 0) where
   held : (rows : List RowState) (siblings : List Contact) → All Keeps rows → All P siblings → All P (flat_map kept_in rows ++ siblings)
   held rows siblings a b = All-append P (flat_map kept_in rows) siblings (from-rows rows a) b
 
-  step-holds : (s : TableState) (role : ℕ) (call : TableCall) (x : TableReply) → All P (held_in s) → All P (told_in call) → All P (held_in (table_after s role call x))
-  step-holds s role (Seen_call c) (Seen_reply seen) a p =
-      let here = All-head P c [] p in
+  after-holds : (s : TableState) (c : Contact) (seen : Seen) (proofs : Proofs) → P c → All P (held_in s) → All P (held_in (after_seen s c seen proofs))
+  after-holds s c seen proofs here a =
       held (seen_rows s.own s.k s.b c s.rows) (seen_siblings (siblings_of s) c seen) (seen_rows-keeps s.own s.k s.b c s.rows here (rows-held s a)) (seen-siblings s.own s.siblings c seen here (siblings-held s a))
+
+  step-holds : (s : TableState) (role : ℕ) (call : TableCall) (x : TableReply) → All P (held_in s) → All P (told_in call) → All P (held_in (table_after s role call x))
+  step-holds s role (Seen_call c) (Seen_reply seen) a p = after-holds s c seen s.proofs (All-head P c [] p) a
   step-holds s role (Seen_call c) (Gone_reply x) a p = a
   step-holds s role (Seen_call c) (List_reply x) a p = a
+  step-holds s role (Seen_call c) (Reports_reply x) a p = a
   step-holds s role (Seen_call c) Crowded a p = a
   step-holds s role (Seen_call c) NoMemory a p = a
+  step-holds s role (Vouched c proof) (Seen_reply seen) a p = after-holds s c seen (noted c proof s.proofs) (All-head P c [] p) a
+  step-holds s role (Vouched c proof) (Gone_reply x) a p = a
+  step-holds s role (Vouched c proof) (List_reply x) a p = a
+  step-holds s role (Vouched c proof) (Reports_reply x) a p = a
+  step-holds s role (Vouched c proof) Crowded a p = a
+  step-holds s role (Vouched c proof) NoMemory a p = a
   step-holds s role (Failed c) (Gone_reply gone) a p = held (failed_rows gone c s.rows) (failed_siblings (siblings_of s) c gone) (failed_rows-keeps gone c s.rows (rows-held s a)) (failed-siblings s.own s.siblings c gone (siblings-held s a))
   step-holds s role (Failed c) (Seen_reply x) a p = a
   step-holds s role (Failed c) (List_reply x) a p = a
+  step-holds s role (Failed c) (Reports_reply x) a p = a
   step-holds s role (Failed c) Crowded a p = a
   step-holds s role (Failed c) NoMemory a p = a
   step-holds s role (Closest target n) x a p = a
+  step-holds s role (Vouchers target n) x a p = a
 
   -- what holds of all that are held, and of a contact that is new to the buckets, holds after that contact was seen
   known-keeps : (own : Id) (k b : ℕ) (c : Contact) (rows after : List RowState) (seen : Seen) (S : List Contact) → SoundRows own k b rows → SeenStep own k b c rows seen after → (¬ IsNew own rows c) → All Keeps rows → All P S

@@ -7,4 +7,6 @@ pub mod Newness
 pub mod Seating
 pub mod Few
 pub mod Kept
+pub mod Vouching
+pub mod Beside
 pub mod Sweeping

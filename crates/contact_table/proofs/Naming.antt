@@ -22,7 +22,7 @@ use Rattle.sibling_list.specs.Siblings.{SiblingList, with_one}
 use Rattle.contact_table.specs.declared.calls.TableCall.{TableCall}
 use Rattle.contact_table.specs.declared.calls.TableCall.TheVariants.{Seen as Seen_call}
 use Rattle.contact_table.specs.declared.calls.TableReply.{TableReply}
-use Rattle.contact_table.specs.declared.calls.TableReply.TheVariants.{Seen as Seen_reply, Gone as Gone_reply, List as List_reply, Crowded, NoMemory}
+use Rattle.contact_table.specs.declared.calls.TableReply.TheVariants.{Seen as Seen_reply, Gone as Gone_reply, List as List_reply, Reports as Reports_reply, Crowded, NoMemory}
 use Rattle.contact_table.specs.TableState.{TableState, siblings_of}
 use Rattle.contact_table.specs.TableStep.{TableMay, TableStep, table_after, contacts_of, seen_siblings}
 use Rattle.contact_table.specs.Told.{HasMemory, calls_in, replies_in, kept_in, held_in, limited_table, seen_calls}
@@ -112,6 +112,7 @@ step-some : (s : TableState) (role : ℕ) (c : Contact) (x : TableReply) → s.s
 step-some s role c (Seen_reply seen) some = more-some (siblings_of s) c seen some
 step-some s role c (Gone_reply gone) some = some
 step-some s role c (List_reply list) some = some
+step-some s role c (Reports_reply reports) some = some
 step-some s role c Crowded some = some
 step-some s role c NoMemory some = some
 
@@ -127,6 +128,7 @@ begins-some : (own : Id) (k b l role : ℕ) (c : Contact) (x : TableReply) → 0
 begins-some own k b l role c (Seen_reply seen) some other step memory = first-some (siblings_of (limited_table own k b l)) c seen other (first-taken own k b c (whole ∷ []) _ seen some other refl step.0)
 begins-some own k b l role c (Gone_reply gone) some other step memory = absurd step
 begins-some own k b l role c (List_reply list) some other step memory = absurd step
+begins-some own k b l role c (Reports_reply reports) some other step memory = absurd step
 begins-some own k b l role c Crowded some other step memory = absurd (uncrowded own k b l c step.1)
 begins-some own k b l role c NoMemory some other step memory = absurd memory
 

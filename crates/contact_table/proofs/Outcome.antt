@@ -20,11 +20,11 @@ use Rattle.bucket_tree.proofs.Every.{count-append, count-none, any-count, flat_m
 use Rattle.std.proofs.lemmas.List.Concat.{flat_map-cons}
 use Rattle.bucket_tree.proofs.Places.{covers, one-covers}
 use Rattle.contact_table.specs.declared.calls.TableCall.{TableCall}
-use Rattle.contact_table.specs.declared.calls.TableCall.TheVariants.{Seen as Seen_call, Failed, Closest}
+use Rattle.contact_table.specs.declared.calls.TableCall.TheVariants.{Seen as Seen_call, Vouched, Failed, Closest, Vouchers}
 use Rattle.contact_table.specs.declared.calls.TableReply.{TableReply}
-use Rattle.contact_table.specs.declared.calls.TableReply.TheVariants.{Seen as Seen_reply, Gone as Gone_reply, List as List_reply, Crowded, NoMemory}
+use Rattle.contact_table.specs.declared.calls.TableReply.TheVariants.{Seen as Seen_reply, Gone as Gone_reply, List as List_reply, Reports as Reports_reply, Crowded, NoMemory}
 use Rattle.contact_table.specs.TableState.{TableState, SoundTable}
-use Rattle.contact_table.specs.TableStep.{TableMay, TableStep, table_after}
+use Rattle.contact_table.specs.TableStep.{TableMay, SeenReplies, TableStep, table_after}
 use Rattle.contact_table.specs.Told.{HasMemory, calls_in, replies_in}
 use Rattle.contact_table.proofs.Determined.{unknown, one-row, halves-of, some-covers}
 use Rattle.contact_table.proofs.StaysSound.{step-sound}
@@ -193,54 +193,85 @@ module _ (own : Id) (k b : ℕ) where
   one-gone c rows a d Replaced Removed s t u = both-rows c rows a d Replaced Removed s t u
   one-gone c rows a d Replaced Replaced s t u = refl
 
-pub one-reply : (s : TableState) (role other : ℕ) (call : TableCall) (x y : TableReply) → SoundTable s → TableStep s role call x → TableStep s other call y → HasMemory x → HasMemory y → x ≡ y
-one-reply s role other (Seen_call c) (Seen_reply x) (Seen_reply y) q t u m n =
+seen-once : (s : TableState) (c : Contact) (x y : TableReply) → SoundTable s → SeenReplies s c x → SeenReplies s c y → HasMemory x → HasMemory y → x ≡ y
+seen-once s c (Seen_reply x) (Seen_reply y) q t u m n =
     let one = one-covers c.id s.rows q.buckets.rows.partition q.buckets.rows.short in
     ap Seen_reply (one-seen s.own s.k s.b c s.rows _ _ x y t.0 u.0 (omega (arith, one)))
-one-reply s role other (Seen_call c) Crowded Crowded q t u m n = refl
-one-reply s role other (Seen_call c) (Seen_reply x) Crowded q t u m n = absurd (t.1 u)
-one-reply s role other (Seen_call c) Crowded (Seen_reply y) q t u m n = absurd (u.1 t)
-one-reply s role other (Seen_call c) Crowded (Gone_reply y) q t u m n = absurd u
-one-reply s role other (Seen_call c) Crowded (List_reply y) q t u m n = absurd u
-one-reply s role other (Seen_call c) Crowded NoMemory q t u m n = absurd n
+seen-once s c Crowded Crowded q t u m n = refl
+seen-once s c (Seen_reply x) Crowded q t u m n = absurd (t.1 u)
+seen-once s c Crowded (Seen_reply y) q t u m n = absurd (u.1 t)
+seen-once s c Crowded (Gone_reply y) q t u m n = absurd u
+seen-once s c Crowded (List_reply y) q t u m n = absurd u
+seen-once s c Crowded (Reports_reply y) q t u m n = absurd u
+seen-once s c Crowded NoMemory q t u m n = absurd n
+seen-once s c (Seen_reply x) (Gone_reply y) q t u m n = absurd u
+seen-once s c (Seen_reply x) (List_reply y) q t u m n = absurd u
+seen-once s c (Seen_reply x) (Reports_reply y) q t u m n = absurd u
+seen-once s c (Seen_reply x) NoMemory q t u m n = absurd n
+seen-once s c (Gone_reply x) y q t u m n = absurd t
+seen-once s c (List_reply x) y q t u m n = absurd t
+seen-once s c (Reports_reply x) y q t u m n = absurd t
+seen-once s c NoMemory y q t u m n = absurd m
+
+pub one-reply : (s : TableState) (role other : ℕ) (call : TableCall) (x y : TableReply) → SoundTable s → TableStep s role call x → TableStep s other call y → HasMemory x → HasMemory y → x ≡ y
+one-reply s role other (Seen_call c) x y q t u m n = seen-once s c x y q t u m n
+one-reply s role other (Vouched c p) x y q t u m n = seen-once s c x y q t u m n
 one-reply s role other (Failed c) (Gone_reply x) (Gone_reply y) q t u m n = ap Gone_reply (one-gone s.own s.k s.b c s.rows _ _ x y q.buckets.rows t u)
 one-reply s role other (Closest target k) (List_reply x) (List_reply y) q t u m n = ap List_reply (t ∙ sym u)
-one-reply s role other (Seen_call c) (Gone_reply x) y q t u m n = absurd t
-one-reply s role other (Seen_call c) (List_reply x) y q t u m n = absurd t
-one-reply s role other (Seen_call c) NoMemory y q t u m n = absurd m
-one-reply s role other (Seen_call c) (Seen_reply x) (Gone_reply y) q t u m n = absurd u
-one-reply s role other (Seen_call c) (Seen_reply x) (List_reply y) q t u m n = absurd u
-one-reply s role other (Seen_call c) (Seen_reply x) NoMemory q t u m n = absurd n
+one-reply s role other (Vouchers target k) (Reports_reply x) (Reports_reply y) q t u m n = ap Reports_reply (t ∙ sym u)
 one-reply s role other (Failed c) (Seen_reply x) y q t u m n = absurd t
 one-reply s role other (Failed c) (List_reply x) y q t u m n = absurd t
+one-reply s role other (Failed c) (Reports_reply x) y q t u m n = absurd t
 one-reply s role other (Failed c) NoMemory y q t u m n = absurd m
 one-reply s role other (Failed c) Crowded y q t u m n = absurd t
 one-reply s role other (Failed c) (Gone_reply x) Crowded q t u m n = absurd u
 one-reply s role other (Failed c) (Gone_reply x) (Seen_reply y) q t u m n = absurd u
 one-reply s role other (Failed c) (Gone_reply x) (List_reply y) q t u m n = absurd u
+one-reply s role other (Failed c) (Gone_reply x) (Reports_reply y) q t u m n = absurd u
 one-reply s role other (Failed c) (Gone_reply x) NoMemory q t u m n = absurd n
 one-reply s role other (Closest target k) (Seen_reply x) y q t u m n = absurd t
 one-reply s role other (Closest target k) (Gone_reply x) y q t u m n = absurd t
+one-reply s role other (Closest target k) (Reports_reply x) y q t u m n = absurd t
 one-reply s role other (Closest target k) NoMemory y q t u m n = absurd m
 one-reply s role other (Closest target k) Crowded y q t u m n = absurd t
 one-reply s role other (Closest target k) (List_reply x) Crowded q t u m n = absurd u
 one-reply s role other (Closest target k) (List_reply x) (Seen_reply y) q t u m n = absurd u
 one-reply s role other (Closest target k) (List_reply x) (Gone_reply y) q t u m n = absurd u
+one-reply s role other (Closest target k) (List_reply x) (Reports_reply y) q t u m n = absurd u
 one-reply s role other (Closest target k) (List_reply x) NoMemory q t u m n = absurd n
+one-reply s role other (Vouchers target k) (Seen_reply x) y q t u m n = absurd t
+one-reply s role other (Vouchers target k) (Gone_reply x) y q t u m n = absurd t
+one-reply s role other (Vouchers target k) (List_reply x) y q t u m n = absurd t
+one-reply s role other (Vouchers target k) NoMemory y q t u m n = absurd m
+one-reply s role other (Vouchers target k) Crowded y q t u m n = absurd t
+one-reply s role other (Vouchers target k) (Reports_reply x) Crowded q t u m n = absurd u
+one-reply s role other (Vouchers target k) (Reports_reply x) (Seen_reply y) q t u m n = absurd u
+one-reply s role other (Vouchers target k) (Reports_reply x) (Gone_reply y) q t u m n = absurd u
+one-reply s role other (Vouchers target k) (Reports_reply x) (List_reply y) q t u m n = absurd u
+one-reply s role other (Vouchers target k) (Reports_reply x) NoMemory q t u m n = absurd n
 
 -- who makes the call doesn't count
 any-role : (s : TableState) (role other : ℕ) (call : TableCall) (x : TableReply) → table_after s role call x ≡ table_after s other call x
 any-role s role other (Seen_call c) (Seen_reply x) = refl
 any-role s role other (Seen_call c) (Gone_reply x) = refl
 any-role s role other (Seen_call c) (List_reply x) = refl
+any-role s role other (Seen_call c) (Reports_reply x) = refl
 any-role s role other (Seen_call c) Crowded = refl
 any-role s role other (Seen_call c) NoMemory = refl
+any-role s role other (Vouched c p) (Seen_reply x) = refl
+any-role s role other (Vouched c p) (Gone_reply x) = refl
+any-role s role other (Vouched c p) (List_reply x) = refl
+any-role s role other (Vouched c p) (Reports_reply x) = refl
+any-role s role other (Vouched c p) Crowded = refl
+any-role s role other (Vouched c p) NoMemory = refl
 any-role s role other (Failed c) (Seen_reply x) = refl
 any-role s role other (Failed c) (Gone_reply x) = refl
 any-role s role other (Failed c) (List_reply x) = refl
+any-role s role other (Failed c) (Reports_reply x) = refl
 any-role s role other (Failed c) Crowded = refl
 any-role s role other (Failed c) NoMemory = refl
 any-role s role other (Closest target n) x = refl
+any-role s role other (Vouchers target n) x = refl
 
 pub one-state : (s : TableState) (role other : ℕ) (call : TableCall) (x y : TableReply) → SoundTable s → TableStep s role call x → TableStep s other call y → HasMemory x → HasMemory y → table_after s role call x ≡ table_after s other call y
 one-state s role other call x y q t u m n = any-role s role other call x ∙ ap (table_after s other call) (one-reply s role other call x y q t u m n)

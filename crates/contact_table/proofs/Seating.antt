@@ -1,8 +1,8 @@
 -- The seats of a host: who sits where, that a contact which takes one sits once, and when all are taken.
-use Rattle.std.proofs.Common.{◌≡◌, ◌≢◌, ◌↔◌, ℕ, zero, suc, ◌+◌, ◌<◌, ◌≤◌, ◌||◌, List, [], ◌∷◌, ◌++◌, length, Bool, true, false, cond, Option, None, Some, inl, inr, refl, sym, ap, subst, ◌∙◌, arith, eqb}
+use Rattle.std.proofs.Common.{◌≡◌, ◌≢◌, ◌↔◌, ℕ, zero, suc, ◌<◌, ◌≤◌, ◌||◌, List, [], ◌∷◌, ◌++◌, length, Bool, true, false, cond, Option, None, Some, inl, inr, refl, sym, ap, subst, ◌∙◌, arith, eqb}
 use Rattle.std.specs.Prelude.{IsTrue}
 use Rattle.std.specs.List.{All, Contains, IsDistinct, list_any}
-use Rattle.std.specs.Option.{IsSomeAnd, is_some}
+use Rattle.std.specs.Option.{IsSomeAnd}
 use Rattle.std.specs.BTreeMap.{BTreeMap, is_at, Updates}
 use Rattle.std.specs.Ordering.{is_eq, ordering_then, nat_cmp}
 use Rattle.std.specs.Cmp.Lexicographic.{slice_cmp}
@@ -24,7 +24,7 @@ use Rattle.kad_base.specs.Hosts.{host}
 use Rattle.kad_base.proofs.Contacts.{contact_total, same_exact, same_itself}
 use Rattle.contact_table.specs.declared.seats.Seat.{Seat}
 use Rattle.contact_table.specs.Crowded.{IsCrowded}
-use Rattle.contact_table.specs.Seats.{max_seats, seat_cmp, sitter, AreSeats, IsSeated, HasSeats}
+use Rattle.contact_table.specs.Seats.{seat_cmp, sitter, AreSeats, IsSeated, HasSeats}
 
 -- ---- seats are told apart by their order
 
@@ -263,9 +263,8 @@ module _ (n : ℕ) (held : List Contact) (m m' : BTreeMap Seat Contact) (c : Con
       nowhere : (g : Host) (i : ℕ) → sitter m g i ≡ Some c → ⊥
       nowhere g i e = absent i (are.within g i c e) (ap (λ (k : Host). sitter m k i) (is ∙ are.home g i c e) ∙ e)
 
-  pub takes-seat : length m'.entries ≤ max_seats → HasSeats n held m → ((i : ℕ) → i < n → sitter m h i ≢ Some c) → (¬ IsSomeAnd (sitter m h p) (IsHeld held)) → HasSeats n held m'
-  takes-seat few seats absent free = record {
-    few = few;
+  pub takes-seat : HasSeats n held m → ((i : ℕ) → i < n → sitter m h i ≢ Some c) → (¬ IsSomeAnd (sitter m h p) (IsHeld held)) → HasSeats n held m'
+  takes-seat seats absent free = record {
     are = takes-seats seats.are absent;
     each = λ lim. all-with (IsSeated n m) (IsSeated n m') held
         (λ o has at. look (IsSeated n m' o) (host o.addr) at.place
@@ -286,11 +285,6 @@ seated-free n held m c h is seats at = some-free n held m c h at.0 is seats at.1
 
 pub empty-free : (n : ℕ) (held : List Contact) (m : BTreeMap Seat Contact) (c : Contact) (h : Host) (p : ℕ) → h ≡ host c.addr → HasSeats n held m → p < n → (¬ IsSomeAnd (sitter m h p) (IsHeld held)) → ¬ IsCrowded n held c
 empty-free n held m c h p is seats lt free = some-free n held m c h p is seats lt (λ x e has. absurd (free (and-some (sitter m h p) (IsHeld held) x e (contains-among held x has))))
-
--- one seat more has room
-pub room-left : (o : Option Contact) (a b : ℕ) → a < max_seats → b ≡ a + cond (is_some o) 0 1 → b ≤ max_seats
-room-left None a b lt e = omega (arith, lt, e)
-room-left (Some c) a b lt e = omega (arith, lt, e)
 
 -- what holds of who sits holds of those who are left
 pub still-absent : (m m' : BTreeMap Seat Contact) (n : ℕ) (h : Host) (c : Contact) → ((g : Host) (i : ℕ) (x : Contact) → sitter m' g i ≡ Some x → sitter m g i ≡ Some x) → ((i : ℕ) → i < n → sitter m h i ≢ Some c) → (i : ℕ) → i < n → sitter m' h i ≢ Some c

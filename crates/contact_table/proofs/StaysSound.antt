@@ -20,13 +20,14 @@ use Rattle.bucket_tree.proofs.RowSteps.{seen-kept, failed-kept}
 use Rattle.sibling_list.specs.Siblings.{SiblingList, IsSiblings, with_one, without_one}
 use Rattle.sibling_list.proofs.Listing.{none_yet, grows, stays}
 use Rattle.contact_table.specs.declared.calls.TableCall.{TableCall}
-use Rattle.contact_table.specs.declared.calls.TableCall.TheVariants.{Seen as Seen_call, Failed, Closest}
+use Rattle.contact_table.specs.declared.calls.TableCall.TheVariants.{Seen as Seen_call, Vouched, Failed, Closest, Vouchers}
 use Rattle.contact_table.specs.declared.calls.TableReply.{TableReply}
-use Rattle.contact_table.specs.declared.calls.TableReply.TheVariants.{Seen as Seen_reply, Gone as Gone_reply, List as List_reply, Crowded, NoMemory}
+use Rattle.contact_table.specs.declared.calls.TableReply.TheVariants.{Seen as Seen_reply, Gone as Gone_reply, List as List_reply, Reports as Reports_reply, Crowded, NoMemory}
 use Rattle.contact_table.specs.TableState.{TableState, SoundTable}
-use Rattle.contact_table.specs.TableStep.{TableMay, TableStep, table_after, seen_siblings, failed_siblings}
+use Rattle.contact_table.specs.TableStep.{TableMay, TableStep, table_after, after_seen, seen_siblings, failed_siblings}
 use Rattle.contact_table.specs.RowsAfter.{seen_rows, failed_rows}
 use Rattle.contact_table.specs.Told.{limited_table, new_table}
+use Rattle.contact_table.specs.Vouched.{Proofs, noted}
 use Rattle.contact_table.proofs.Determined.{one-row, halves-of, some-covers}
 
 module _ (own : Id) (k b : ℕ) where
@@ -87,21 +88,32 @@ failed-siblings own S c Unknown s = without-sound own S c s
 with-parts : (s : TableState) (rows : List RowState) → Sound (record { own = s.own; k = s.k; b = s.b; rows = s.rows }) → SoundRows s.own s.k s.b rows → Sound (record { own = s.own; k = s.k; b = s.b; rows = rows })
 with-parts s rows q r = record { some_live = q.some_live; few_live = q.few_live; some_bits = q.some_bits; few_bits = q.few_bits; rows = r }
 
-pub step-sound : (s : TableState) (role : ℕ) (call : TableCall) (x : TableReply) → SoundTable s → TableStep s role call x → SoundTable (table_after s role call x)
-step-sound s role (Seen_call c) (Seen_reply seen) q t = record {
-  buckets = with-parts s (seen_rows s.own s.k s.b c s.rows) q.buckets (seen-sound s.own s.k s.b c s.rows (seen_rows s.own s.k s.b c s.rows) seen q.buckets.some_live q.buckets.rows t.0);
+after-sound : (s : TableState) (c : Contact) (seen : Seen) (proofs : Proofs) → SoundTable s → SeenStep s.own s.k s.b c s.rows seen (seen_rows s.own s.k s.b c s.rows) → SoundTable (after_seen s c seen proofs)
+after-sound s c seen proofs q t = record {
+  buckets = with-parts s (seen_rows s.own s.k s.b c s.rows) q.buckets (seen-sound s.own s.k s.b c s.rows (seen_rows s.own s.k s.b c s.rows) seen q.buckets.some_live q.buckets.rows t);
   siblings = seen-siblings s.own s.siblings c seen q.siblings;
 }
+
+pub step-sound : (s : TableState) (role : ℕ) (call : TableCall) (x : TableReply) → SoundTable s → TableStep s role call x → SoundTable (table_after s role call x)
+step-sound s role (Seen_call c) (Seen_reply seen) q t = after-sound s c seen s.proofs q t.0
 step-sound s role (Seen_call c) Crowded q t = q
 step-sound s role (Seen_call c) NoMemory q t = q
 step-sound s role (Seen_call c) (Gone_reply g) q t = absurd t
 step-sound s role (Seen_call c) (List_reply l) q t = absurd t
+step-sound s role (Seen_call c) (Reports_reply l) q t = absurd t
+step-sound s role (Vouched c p) (Seen_reply seen) q t = after-sound s c seen (noted c p s.proofs) q t.0
+step-sound s role (Vouched c p) Crowded q t = q
+step-sound s role (Vouched c p) NoMemory q t = q
+step-sound s role (Vouched c p) (Gone_reply g) q t = absurd t
+step-sound s role (Vouched c p) (List_reply l) q t = absurd t
+step-sound s role (Vouched c p) (Reports_reply l) q t = absurd t
 step-sound s role (Failed c) (Gone_reply gone) q t = record {
   buckets = with-parts s (failed_rows gone c s.rows) q.buckets (failed-sound s.own s.k s.b c s.rows (failed_rows gone c s.rows) gone q.buckets.rows t);
   siblings = failed-siblings s.own s.siblings c gone q.siblings;
 }
 step-sound s role (Failed c) (Seen_reply x) q t = absurd t
 step-sound s role (Failed c) (List_reply x) q t = absurd t
+step-sound s role (Failed c) (Reports_reply x) q t = absurd t
 step-sound s role (Failed c) Crowded q t = absurd t
 step-sound s role (Failed c) NoMemory q t = absurd t
 step-sound s role (Closest target n) (List_reply x) q t = q
@@ -109,6 +121,8 @@ step-sound s role (Closest target n) NoMemory q t = q
 step-sound s role (Closest target n) Crowded q t = absurd t
 step-sound s role (Closest target n) (Seen_reply x) q t = absurd t
 step-sound s role (Closest target n) (Gone_reply x) q t = absurd t
+step-sound s role (Closest target n) (Reports_reply x) q t = absurd t
+step-sound s role (Vouchers target n) x q t = q
 
 pub run-sound : (s : TableState) (run : List (Made TableCall TableReply)) → SoundTable s → IsRun TableMay TableStep table_after s run → SoundTable (left_by table_after s run)
 run-sound s [] q r = q

@@ -1,21 +1,19 @@
 -- Seats from which those rose who had left the table.
-use Rattle.std.proofs.Common.{◌≡◌, ◌≢◌, ℕ, ◌<◌, ◌≤◌, List, [], ◌∷◌, length, Bool, true, false, cond, Option, None, Some, refl, sym, ap, subst, ◌∙◌, arith}
+use Rattle.std.proofs.Common.{◌≡◌, ℕ, List, [], ◌∷◌, Bool, true, false, cond, Option, None, Some, refl, sym, ap, ◌∙◌}
 use Rattle.std.specs.Prelude.{filter}
 use Rattle.std.specs.List.{All, AllByRecursion, Contains}
 use Rattle.std.specs.List.Sorted.{IsStrictlySortedBy}
 use Rattle.std.specs.Map.{keys_of, lookup}
-use Rattle.std.specs.Option.{IsSomeAnd}
-use Rattle.std.specs.BTreeMap.{BTreeMap, IsOrdered, get, is_at}
+use Rattle.std.specs.BTreeMap.{BTreeMap, IsOrdered, is_at}
 use Rattle.std.specs.Ordering.{is_eq}
-use Rattle.std.specs.declared.cmp.Ordering.TheVariants.{Less, Equal, Greater}
+use Rattle.std.specs.declared.cmp.Ordering.TheVariants.{Less}
 use Rattle.std.proofs.lemmas.List.Elements.{All-contains_itself}
 use Rattle.kad_base.specs.declared.types.Contact.{Contact}
 use Rattle.kad_base.specs.declared.host.Host.{Host}
 use Rattle.kad_base.specs.Contacts.{among}
 use Rattle.kad_base.specs.Hosts.{host}
-use Rattle.bucket_tree.proofs.Counted.{filter-few}
 use Rattle.contact_table.specs.declared.seats.Seat.{Seat}
-use Rattle.contact_table.specs.Seats.{seat_cmp, sitter, AreSeats, IsSeated, HasSeats}
+use Rattle.contact_table.specs.Seats.{seat_cmp, sitter, IsSeated, HasSeats}
 use Rattle.contact_table.proofs.Seating.{seat_of, seat_exact, contains-among}
 
 -- what is left of who sits somewhere
@@ -80,12 +78,8 @@ module _ (n : ℕ) (held : List Contact) (m m' : BTreeMap Seat Contact) (order :
   pub sat-before : (h : Host) (i : ℕ) (c : Contact) → sitter m' h i ≡ Some c → sitter m h i ≡ Some c
   sat-before h i c e = kept-is (among held) (sitter m h i) c (sym (sat h i) ∙ e)
 
-  fewer : length m'.entries ≤ length m.entries
-  fewer = let e = ap (λ (es : Entries). length es) is in let le = filter-few (λ (e : Seat × Contact). among held e.1) m.entries in omega (arith, e, le)
-
   pub sweeps : HasSeats n held m → HasSeats n held m'
   sweeps seats = record {
-    few = (let le = seats.few in omega (arith, le, fewer));
     are = record {
       home = λ h i c e. seats.are.home h i c (sat-before h i c e);
       within = λ h i c e. seats.are.within h i c (sat-before h i c e);

@@ -1,6 +1,8 @@
 pub mod RowsAfter
 pub mod TableState
+pub mod Vouched
 pub mod TableStep
+pub mod TakenIn
 pub mod Told
 pub mod SavedState
 pub mod Crowded

@@ -1,6 +1,6 @@
 -- The index of a table with a limit: each host has n numbered seats, and each contact that the table holds sits on one of its
 -- host's. Who has left the table may still sit there.
-use Rattle.std.specs.Prelude.{◌≡◌, ℕ, ◌<◌, ◌≤◌, List, Option, Some, length}
+use Rattle.std.specs.Prelude.{◌≡◌, ℕ, ◌<◌, List, Option, Some}
 use Rattle.std.specs.List.{All}
 use Rattle.std.specs.BTreeMap.{BTreeMap, get}
 use Rattle.std.specs.declared.cmp.Ordering.{Ordering}
@@ -29,12 +29,7 @@ pub record IsSeated (n : ℕ) (m : BTreeMap Seat Contact) (c : Contact) : Type 0
   pub within : place < n
   pub sits : sitter m (host c.addr) place ≡ Some c
 
--- the index has no more seats (this project's own limit: buckets with k 20 and b 5 hold 39,720 contacts at most)
-abbrev pub max_seats : ℕ
-max_seats = 65536
-
 -- where there is a limit, each that is held sits on a seat
 pub record HasSeats (n : ℕ) (held : List Contact) (m : BTreeMap Seat Contact) : Type 0 where
-  pub few : length m.entries ≤ max_seats
   pub are : AreSeats n m
   pub each : 0 < n → All (IsSeated n m) held

@@ -1,4 +1,4 @@
-//! The table as a value: all that it holds, so that it can be saved and made again.
+//! The table as a value: all that it holds but its limit and its proofs, so that it can be saved and made again.
 use bucket_tree::Rows;
 use kad_base::{Contacts, Id};
 

@@ -1,6 +1,6 @@
 //! The index of a table with a limit: which contacts of each host the table may hold. Each host has as many numbered seats as
 //! the limit says. Who has left the table keeps its seat until another takes it, so no call has to follow who leaves.
-ghost use Rattle.std.specs.Prelude.{◌≡◌, ◌≢◌, ◌↔◌, ◌<◌, ℕ, IsTrue, true, false, MatchOption, Some, filter, length};
+ghost use Rattle.std.specs.Prelude.{◌≡◌, ◌≢◌, ◌↔◌, ◌<◌, ℕ, IsTrue, true, false, MatchOption, Some, filter};
 ghost use Rattle.std.specs.List.{All, Contains, list_any};
 ghost use Rattle.std.specs.Option.{IsSomeAnd};
 ghost use Rattle.kad_base.specs.Contacts.{among};
@@ -8,7 +8,7 @@ ghost use Rattle.bucket_tree.specs.Rows.{same_id};
 ghost use Rattle.kad_base.specs.Hosts.{host as host_at};
 ghost use Rattle.contact_table.specs.Told.{held_by};
 ghost use Rattle.contact_table.specs.Crowded.{IsCrowded, IsNew};
-ghost use Rattle.contact_table.specs.Seats.{max_seats, seat_cmp, sitter, IsSeated, HasSeats};
+ghost use Rattle.contact_table.specs.Seats.{seat_cmp, sitter, IsSeated, HasSeats};
 ghost use Rattle.std.specs.BTreeMap.{IsOrdered};
 ghost use Rattle.kad_base.specs.declared.host.Host.{Host};
 ghost use Rattle.kad_base.specs.declared.types.Contact.{Contact};
@@ -19,8 +19,8 @@ use kad_base::{Contact, Host, Id, host_of, is_same};
 use sibling_list::Siblings;
 use std::collections::BTreeMap;
 
-/// The index has no more seats: more than a table can hold contacts.
-const MAX_SEATS: usize = 65_536;
+/// With fewer seats they aren't looked through. Buckets with k 20 and b 5 hold 39,720 contacts at most.
+const FEW: usize = 65_536;
 
 /// One of the seats of a host.
 #[derive(Clone, Copy, Debug, PartialEq, Eq, PartialOrd, Ord)]
@@ -139,20 +139,17 @@ fn sweep(buckets: &Buckets, siblings: &Siblings, seats: &mut BTreeMap<Seat, Cont
     seats.retain(|_, contact| holds(buckets, siblings, contact));
 }
 
-/// Whether there is room for a seat more. Where there are too many, those go whom the table doesn't hold; then there is room
-/// for at least a third of them, so that this costs little a call.
-fn has_room(buckets: &Buckets, siblings: &Siblings, seats: &mut BTreeMap<Seat, Contact>) -> bool
-    ensures room { IsTrue result → length seats.new.entries < max_seats }
+/// Does so where there are many. Since the last time a third of them were taken at least, so this costs little a call.
+fn bound(buckets: &Buckets, siblings: &Siblings, seats: &mut BTreeMap<Seat, Contact>)
     ensures before { (h : Host) (i : ℕ) (c : Contact) → sitter seats.new h i ≡ Some c
         → sitter seats.old h i ≡ Some c }
     ensures seats { (n : ℕ) → HasSeats n (held_by buckets.now.rows siblings.now.list) seats.old
         → HasSeats n (held_by buckets.now.rows siblings.now.list) seats.new }
 {
-    if seats.len() < MAX_SEATS {
-        return true;
+    if seats.len() < FEW {
+        return;
     }
     sweep(buckets, siblings, seats);
-    seats.len() < MAX_SEATS
 }
 
 /// Gives the contact, which has no seat, this one, on which nobody sits whom the table holds.
@@ -174,9 +171,7 @@ fn take_seat(
     ensures seated { result ≡ Admission.Admitted → IsSeated limit seats.new contact.now }
     ensures crowded { result ≢ Admission.Crowded }
 {
-    if !has_room(buckets, siblings, seats) {
-        return Admission::NoMemory;
-    }
+    bound(buckets, siblings, seats);
     let host = host_of(&contact.addr);
     match seats.insert(Seat { host, place }, *contact) {
         Ok(_) => Admission::Admitted,

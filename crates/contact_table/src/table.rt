@@ -1,33 +1,37 @@
 //! The table, and what its calls do.
-ghost use Rattle.std.specs.Prelude.{◌≡◌, ◌<◌, ◌≤◌, IfOk, Err};
+ghost use Rattle.std.specs.Prelude.{◌≡◌, ◌<◌, ◌≤◌, IfOk, OnErr, Err};
 ghost use Rattle.kad_distance.specs.KClosest.{k_closest};
 ghost use Rattle.bucket_tree.specs.BucketSteps.{SeenStep, FailedStep};
 ghost use Rattle.contact_table.specs.RowsAfter.{seen_rows, failed_rows};
 ghost use Rattle.contact_table.specs.TableStep.{TableMay, TableStep, table_after, contacts_of, seen_siblings, failed_siblings};
 ghost use Rattle.contact_table.specs.SavedState.{state_of};
 ghost use Rattle.contact_table.specs.TableState.{SoundTable, unlimited};
+ghost use Rattle.contact_table.specs.TakenIn.{IsTakenIn};
 ghost use Rattle.contact_table.specs.Told.{limited_table, new_table};
+ghost use Rattle.contact_table.specs.Vouched.{reports_of};
 ghost use Rattle.bucket_tree.specs.declared.rows.TableFault.{TableFault};
 ghost use Rattle.contact_table.specs.declared.calls.TableCall.{TableCall};
 
 use crate::calls::{TableCall, TableReply};
 use crate::saved::Saved;
 use crate::seats::{Admission, Seat, admit};
+use crate::vouchers::Vouchers;
 use bucket_tree::{Buckets, Gone, Seen, TableFault};
-use kad_base::{Contact, Contacts, Id, NoMemory, Serial};
+use kad_base::{Contact, Contacts, Id, NoMemory, Proof, Reports, Serial};
 use sibling_list::Siblings;
 use std::alloc::Global;
 use std::collections::BTreeMap;
 use std::marker::Model;
 
-/// The routing table of a node, seen as its identifier, k, b, the rows of its buckets, its siblings, and how many contacts of
-/// one host it holds at most.
+/// The routing table of a node, seen as its identifier, k, b, the rows of its buckets, its siblings, how many contacts of one
+/// host it holds at most, and the proofs that its contacts showed.
 #[derive(Drop)]
 pub struct Table {
     buckets: Buckets,
     siblings: Siblings,
     per_address: u8,
     seats: BTreeMap<Seat, Contact>,
+    vouchers: Vouchers,
 }
 
 impl Model for Table {
@@ -35,10 +39,11 @@ impl Model for Table {
     ghost use Rattle.contact_table.specs.TableState.{TableState};
     ghost use Rattle.contact_table.specs.Told.{held_by};
     ghost use Rattle.contact_table.specs.Seats.{HasSeats};
+    ghost use Rattle.contact_table.specs.Vouched.{of_held};
 
     ghost Value = { TableState };
 
-    ghost view = { λ t. record { own = t.buckets.own; k = t.buckets.k; b = t.buckets.b; rows = t.buckets.rows; siblings = t.siblings.list; per_address = t.per_address } };
+    ghost view = { λ t. record { own = t.buckets.own; k = t.buckets.k; b = t.buckets.b; rows = t.buckets.rows; siblings = t.siblings.list; per_address = t.per_address; proofs = of_held (held_by t.buckets.rows t.siblings.list) t.vouchers } };
 
     ghost invariant = { λ t. (t.siblings.own ≡ t.buckets.own) × HasSeats t.per_address (held_by t.buckets.rows t.siblings.list) t.seats };
 }
@@ -72,6 +77,7 @@ impl Table {
             siblings,
             per_address,
             seats: BTreeMap::new(alloc),
+            vouchers: Vouchers::new(alloc),
         })
     }
 
@@ -82,7 +88,7 @@ impl Table {
         self.per_address
     }
 
-    /// All that the table holds, in memory of its own. Its limit isn't saved.
+    /// All that the table holds, in memory of its own. Its limit isn't saved, nor are its proofs.
     pub fn rows(&self) -> Result<Saved, NoMemory>
         ensures { IfOk result (λ saved. state_of saved ≡ unlimited self.now) }
     {
@@ -97,9 +103,9 @@ impl Table {
         })
     }
 
-    /// The table that holds this, without a limit. Unsound where k or b is outside its limits, the rows are none that buckets can have (see
-    /// `Buckets::of_rows`), or the siblings aren't in strict order to `own`, at most 16 and without `own`: then no calls lead
-    /// to it.
+    /// The table that holds this, without a limit and without proofs. Unsound where k or b is outside its limits, the rows are
+    /// none that buckets can have (see `Buckets::of_rows`), or the siblings aren't in strict order to `own`, at most 16 and
+    /// without `own`: then no calls lead to it.
     pub fn of_rows(alloc: Global, saved: &Saved) -> Result<Table, TableFault>
         ensures state { IfOk result (λ table. table ≡ state_of saved.now) }
         ensures sound { IfOk result (λ table. SoundTable table) }
@@ -113,6 +119,7 @@ impl Table {
                     siblings,
                     per_address: 0,
                     seats: BTreeMap::new(alloc),
+                    vouchers: Vouchers::new(alloc),
                 };
                 table.sound();
                 Ok(table)
@@ -147,12 +154,45 @@ impl Table {
             Admission::Crowded => return TableReply::Crowded,
             Admission::NoMemory => return TableReply::NoMemory,
         }
-        match self.buckets.seen(contact) {
-            Ok(seen) => {
-                note_seen(&mut self.siblings, seen, contact);
-                TableReply::Seen { seen }
+        self.vouchers
+            .drop_unheld(&self.buckets, &self.siblings, &contact);
+        let seen = match take_in(&mut self.buckets, &mut self.siblings, contact) {
+            Ok(seen) => seen,
+            Err(NoMemory) => return TableReply::NoMemory,
+        };
+        TableReply::Seen { seen }
+    }
+
+    /// Tells the table that a contact was seen, and showed a proof.
+    fn vouched(&mut self, contact: Contact, proof: Proof) -> TableReply
+        ensures step { TableStep self.old 0 (TableCall.Vouched contact proof) result }
+        ensures after { self.new ≡ table_after self.old 0 (TableCall.Vouched contact proof) result }
+    {
+        self.buckets.sound();
+        match admit(
+            &self.buckets,
+            &self.siblings,
+            self.per_address,
+            &mut self.seats,
+            &contact,
+        ) {
+            Admission::Admitted => {}
+            Admission::Crowded => return TableReply::Crowded,
+            Admission::NoMemory => return TableReply::NoMemory,
+        }
+        let was_put = match self
+            .vouchers
+            .note(&self.buckets, &self.siblings, &contact, proof)
+        {
+            Ok(was_put) => was_put,
+            Err(NoMemory) => return TableReply::NoMemory,
+        };
+        match take_in(&mut self.buckets, &mut self.siblings, contact) {
+            Ok(seen) => TableReply::Seen { seen },
+            Err(NoMemory) => {
+                self.vouchers.take_back(was_put, &contact);
+                TableReply::NoMemory
             }
-            Err(NoMemory) => TableReply::NoMemory,
         }
     }
 
@@ -182,6 +222,46 @@ impl Table {
             Ok(list) => TableReply::List { list },
             Err(NoMemory) => TableReply::NoMemory,
         }
+    }
+
+    /// The same contacts with their proofs.
+    fn reports(&self, target: &Id, n: u8) -> Result<Reports, NoMemory>
+        ensures { IfOk result (λ reports. reports
+            ≡ reports_of self.now.proofs (k_closest target.now n (contacts_of self.now))) }
+    {
+        let contacts = self.closest(target, n)?;
+        let reports = self.vouchers.reports(contacts.as_slice())?;
+        Ok(reports)
+    }
+
+    /// Answers with them.
+    fn list_reports(&self, target: &Id, n: u8) -> TableReply
+        ensures { TableStep self.now 0 (TableCall.Vouchers target.now n) result }
+    {
+        match self.reports(target, n) {
+            Ok(reports) => TableReply::Reports { reports },
+            Err(NoMemory) => TableReply::NoMemory,
+        }
+    }
+}
+
+/// Takes a contact that may go to its row into the buckets, and puts it among the siblings.
+fn take_in(
+    buckets: &mut Buckets,
+    siblings: &mut Siblings,
+    contact: Contact,
+) -> Result<Seen, NoMemory>
+    ensures ok { IfOk result (λ seen.
+        IsTakenIn buckets.old siblings.old contact seen buckets.new siblings.new) }
+    ensures buckets { OnErr result (buckets.new ≡ buckets.old) }
+    ensures siblings { OnErr result (siblings.new ≡ siblings.old) }
+{
+    match buckets.seen(contact) {
+        Ok(seen) => {
+            note_seen(siblings, seen, contact);
+            Ok(seen)
+        }
+        Err(NoMemory) => Err(NoMemory),
     }
 }
 
@@ -221,8 +301,10 @@ impl Serial for Table {
     fn apply(&mut self, role: u8, call: TableCall) -> TableReply {
         match call {
             TableCall::Seen { contact } => self.seen(contact),
+            TableCall::Vouched { contact, proof } => self.vouched(contact, proof),
             TableCall::Failed { contact } => self.failed(&contact),
             TableCall::Closest { target, n } => self.list_closest(&target, n),
+            TableCall::Vouchers { target, n } => self.list_reports(&target, n),
         }
     }
 }

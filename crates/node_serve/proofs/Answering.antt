@@ -1,12 +1,13 @@
 -- The answer of a node from what it holds.
-use Rattle.std.proofs.Common.{◌≡◌, ℕ, List, [], ◌∷◌, ◌++◌, map, refl, sym, ap, subst, ◌∙◌}
+use Rattle.std.proofs.Common.{◌≡◌, ℕ, List, [], ◌∷◌, map, refl, ap, subst, ◌∙◌}
 use Rattle.kad_base.specs.declared.types.Addr.{Addr}
+use Rattle.kad_krpc.specs.Asking.{proof_of}
 use Rattle.kad_krpc.specs.Views.{ask_seen}
 use Rattle.kad_krpc.specs.declared.message.Message.{Message}
 use Rattle.contact_table.specs.TableState.{TableState}
 use Rattle.contact_table.specs.TableStep.{table_after}
 use Rattle.contact_table.specs.declared.calls.TableCall.{TableCall}
-use Rattle.contact_table.specs.declared.calls.TableCall.TheVariants.{Seen, Failed}
+use Rattle.contact_table.specs.declared.calls.TableCall.TheVariants.{Seen, Vouched, Failed}
 use Rattle.contact_table.specs.declared.calls.TableReply.{TableReply}
 use Rattle.contact_table.specs.declared.calls.TableReply.TheVariants.{Seen as Seen_reply, Gone as Gone_reply}
 use Rattle.peer_store.specs.PeersStep.{peers_after}
@@ -52,6 +53,7 @@ own_steps o u (on_items call reply ∷ did) run =
 
 after_own : (t : TableState) (call : TableCall) (reply : TableReply) → (table_after t 0 call reply).own ≡ t.own
 after_own t (Seen c) (Seen_reply seen) = refl
+after_own t (Vouched c proof) (Seen_reply seen) = refl
 after_own t (Failed c) (Gone_reply gone) = refl
 after_own t call reply = refl
 
@@ -77,10 +79,11 @@ answers tag_of s from bytes at asked text next is a =
       answer = by_rules s from bytes at m next (record {
         tx = asked.tx.now;
         read_only = asked.read_only;
+        proof = proof_of asked.arguments;
         ask = ask;
         query = is.query;
         did = a.did;
-        calls = a.calls ∙ ap (λ f. calls_of S f at asked.read_only ask) is.from_is;
+        calls = a.calls ∙ ap (λ f. calls_of S f at asked.read_only (proof_of asked.arguments) ask) is.from_is;
         memory = a.memory;
         steps = a.steps;
         reply_is = refl;

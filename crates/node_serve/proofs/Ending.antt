@@ -1,17 +1,18 @@
 -- What want of memory leaves of a node.
-use Rattle.std.proofs.Common.{◌≡◌, ◌≢◌, ℕ, List, [], ◌∷◌, ◌++◌, map, length, Bool, true, false, cond, nat_le, take, Result, Ok, Err, IfOk, inl, inr, refl, sym, ap, subst, ◌∙◌}
+use Rattle.std.proofs.Common.{◌≡◌, ◌≢◌, ℕ, List, [], ◌∷◌, ◌++◌, map, length, Bool, true, false, cond, nat_le, take, Result, Ok, Err, IfOk, inl, inr, refl, sym, ap, subst, ◌∙◌, Option, None}
 use Rattle.std.proofs.lemmas.Bool.{leb-true}
 use Rattle.std.specs.Prelude.{Option, Some, None, OnErr}
+use Rattle.kad_base.specs.declared.types.Proof.{Proof}
 use Rattle.kad_base.specs.declared.types.Id.{Id}
 use Rattle.kad_base.specs.declared.types.Addr.{Addr}
-use Rattle.kad_base.specs.declared.types.Contact.{Contact}
 use Rattle.kad_base.specs.declared.types.NoMemory.{NoMemory as Lacks}
 use Rattle.kad_krpc.specs.Records.{ip_bytes}
+use Rattle.kad_krpc.specs.Asking.{proof_of}
 use Rattle.kad_krpc.specs.Views.{ask_seen}
 use Rattle.kad_krpc.specs.declared.message.Ask.{Ask}
 use Rattle.kad_krpc.specs.declared.message.Ask.TheVariants.{Ping, FindNode, GetPeers, AnnouncePeer, Get as GetItem, Put as PutItem, Other}
 use Rattle.contact_table.specs.TableState.{TableState}
-use Rattle.contact_table.specs.declared.calls.TableCall.TheVariants.{Closest, Seen}
+use Rattle.contact_table.specs.declared.calls.TableCall.{TableCall}
 use Rattle.contact_table.specs.declared.calls.TableReply.TheVariants.{NoMemory}
 use Rattle.node_tokens.specs.Tokens.{IsAccepted}
 use Rattle.node_serve.specs.declared.asked.Asked.{Asked}
@@ -24,13 +25,13 @@ use Rattle.node_serve.specs.declared.setting.ServeSetting.{ServeSetting}
 use Rattle.node_serve.specs.AnswerBy.{Steps, setting_of}
 use Rattle.node_serve.specs.AnswerOf.{IsTokenAccepted, IsPutTaken, LeavesStores, all, peers_purged, items_purged, whole, EndsEarly, notify_by}
 use Rattle.node_serve.specs.Asked.{IsAsked}
-use Rattle.node_serve.specs.Calls.{Did, on_table, on_peers, on_items, reply_of, is_accepted, answer_with}
+use Rattle.node_serve.specs.Calls.{Did, on_table, on_peers, on_items, near_call, reply_of, is_accepted, answer_with}
 use Rattle.item_store.specs.Items.{max_length}
 use Rattle.item_store.specs.declared.calls.ItemCall.TheVariants.{Get as Get_call, Put as Keep_call}
 use Rattle.item_store.specs.declared.calls.ItemReply.TheVariants.{NoMemory as No_item_memory}
 use Rattle.peer_store.specs.declared.calls.PeerCall.TheVariants.{List as List_call, Put}
 use Rattle.peer_store.specs.declared.calls.PeerReply.TheVariants.{Listed, NoMemory as No_peer_memory}
-use Rattle.node_serve.specs.Gains.{IsFor, FailsBy, MayFail, did_for, item_reply, put_wants, wants_of}
+use Rattle.node_serve.specs.Gains.{IsFor, FailsBy, MayFail, did_for, item_reply, near_reply, put_wants, wants_of}
 use Rattle.node_serve.specs.Gathered.{AnswersAsked, EndsAsked, node_of, own_does, own_stores}
 use Rattle.node_serve.specs.NodeState.{NodeState, Stores, stores_of, with_parts}
 use Rattle.node_serve.specs.Replies.{IsTaken, RepliesWith, peer_for}
@@ -38,6 +39,7 @@ use Rattle.node_serve.specs.Responses.{Ends, unasked, gathering, composing, tell
 use Rattle.node_serve.specs.Sealing.{Tags}
 use Rattle.node_serve.proofs.Accepting.{accepted}
 use Rattle.node_serve.proofs.Answering.{answered, kept_own, own_steps}
+use Rattle.node_serve.proofs.Nearby.{near_after, none_after}
 use Rattle.node_serve.proofs.Responding.{main_calls}
 use Rattle.node_serve.proofs.Same.{shows, steps_cut}
 use Rattle.node_serve.proofs.Wanted.{did_memory}
@@ -101,7 +103,7 @@ module _ (s : NodeState) (from : Addr) (at : ℕ) where
   placing (PutItem id token v mutable) h = absurd (puts_place v (is_accepted s.tokens (ip_bytes from.ip) at token) mutable h)
   placing (Other method) h = absurd h
 
-  module _ (tx : List ℕ) (ask : Ask) (told : Option Contact) (t : TableState) (q : Stores) where
+  module _ (tx : List ℕ) (ask : Ask) (told : Option TableCall) (t : TableState) (q : Stores) where
     -- the table is as it was, and what is kept is one of what want of memory may leave
     pub record Leaves : Type 0 where
       pub table : t ≡ s.table
@@ -114,16 +116,16 @@ module _ (s : NodeState) (from : Addr) (at : ℕ) where
     came : (did ds : List Did) → did ≡ ds → Came did → Came ds
     came did ds e st = subst Came e st
 
-    fails_leaves : (w : Wants) → (IsPlace w → IsTokenAccepted s from at ask) → (IsKeep w → IsPutTaken s from at ask) → (did : List Did) → FailsBy s.k at w did → Came did → Leaves
+    fails_leaves : (w : Wants) → (IsPlace w → IsTokenAccepted s from at ask) → (IsKeep w → IsPutTaken s from at ask) → (did : List Did) → FailsBy (setting_of s) at w did → Came did → Leaves
     fails_leaves (Nodes target) may keeps did h st =
-        let e = came did (on_table (Closest target s.k) NoMemory ∷ []) h st in
-        record { table = e.1.0; stores = all e.1.1 }
+        let e = came did (on_table (near_call s.policy target s.k) NoMemory ∷ []) h st in
+        record { table = e.1.0 ∙ none_after s.table (near_call s.policy target s.k); stores = all e.1.1 }
     fails_leaves (Peers key first) may keeps did (inl h) st =
         let e = came did (on_peers (List_call key at first) No_peer_memory ∷ []) h st in
         record { table = e.1.0; stores = all e.1.1 }
     fails_leaves (Peers key first) may keeps did (inr h) st =
-        let e = came did (on_peers (List_call key at first) (Listed h.0) ∷ on_table (Closest key s.k) NoMemory ∷ []) h.1 st in
-        record { table = e.1.1.0; stores = all e.1.1.1 }
+        let e = came did (on_peers (List_call key at first) (Listed h.0) ∷ on_table (near_call s.policy key s.k) NoMemory ∷ []) h.1 st in
+        record { table = e.1.1.0 ∙ none_after s.table (near_call s.policy key s.k); stores = all e.1.1.1 }
     fails_leaves (Place key peer) may keeps did h st =
         let e = came did (on_peers (Put key peer at) No_peer_memory ∷ []) h st in
         record { table = e.1.0; stores = peers_purged (may tt) e.1.1 }
@@ -131,21 +133,21 @@ module _ (s : NodeState) (from : Addr) (at : ℕ) where
         let e = came did (on_items (Get_call key at) No_item_memory ∷ []) h st in
         record { table = e.1.0; stores = all e.1.1 }
     fails_leaves (Item key) may keeps did (inr h) st =
-        let e = came did (on_items (Get_call key at) (item_reply h.0) ∷ on_table (Closest key s.k) NoMemory ∷ []) h.1 st in
-        record { table = e.1.1.0; stores = all e.1.1.1 }
+        let e = came did (on_items (Get_call key at) (item_reply h.0) ∷ on_table (near_call s.policy key s.k) NoMemory ∷ []) h.1 st in
+        record { table = e.1.1.0 ∙ none_after s.table (near_call s.policy key s.k); stores = all e.1.1.1 }
     fails_leaves (Keep v source) may keeps did h st =
         let e = came did (on_items (Keep_call v source at) No_item_memory ∷ []) h st in
         record { table = e.1.0; stores = items_purged (keeps tt) e.1.1 }
     fails_leaves w may keeps did h st = absurd h
 
-    gained_leaves : (w : Wants) (g : Gained) → IsFor w g → (IsPlace w → IsTokenAccepted s from at ask) → (IsKeep w → IsPutTaken s from at ask) → MayFail g → Came (did_for s.k at w g) → Leaves
+    gained_leaves : (w : Wants) (g : Gained) → IsFor w g → (IsPlace w → IsTokenAccepted s from at ask) → (IsKeep w → IsPutTaken s from at ask) → MayFail g → Came (did_for (setting_of s) at w g) → Leaves
     gained_leaves Name gained.Name is may keeps fails st = record { table = st.0; stores = all st.1 }
-    gained_leaves (Nodes target) (gained.Nodes nodes) is may keeps fails st = record { table = st.1.0; stores = all st.1.1 }
-    gained_leaves (Peers key first) (gained.Peers list nodes) is may keeps fails st = record { table = st.1.1.0; stores = all st.1.1.1 }
+    gained_leaves (Nodes target) (gained.Nodes nodes) is may keeps fails st = record { table = st.1.0 ∙ near_after s.policy s.table target s.k (near_reply nodes); stores = all st.1.1 }
+    gained_leaves (Peers key first) (gained.Peers list nodes) is may keeps fails st = record { table = st.1.1.0 ∙ near_after s.policy s.table key s.k (near_reply nodes); stores = all st.1.1.1 }
     gained_leaves (Place key peer) (gained.Placed stored) is may keeps fails st = absurd fails
     gained_leaves (Place key peer) gained.HostFull is may keeps fails st = record { table = st.1.0; stores = peers_purged (may tt) st.1.1 }
     gained_leaves (Place key peer) gained.Full is may keeps fails st = record { table = st.1.0; stores = peers_purged (may tt) st.1.1 }
-    gained_leaves (Item key) (gained.Item v nodes) is may keeps fails st = record { table = st.1.1.0; stores = all st.1.1.1 }
+    gained_leaves (Item key) (gained.Item v nodes) is may keeps fails st = record { table = st.1.1.0 ∙ near_after s.policy s.table key s.k (near_reply nodes); stores = all st.1.1.1 }
     gained_leaves (Keep v source) (gained.Kept stored) is may keeps fails st = absurd fails
     gained_leaves (Keep v source) gained.HostCrowded is may keeps fails st = record { table = st.1.0; stores = items_purged (keeps tt) st.1.1 }
     gained_leaves (Keep v source) gained.Crowded is may keeps fails st = record { table = st.1.0; stores = items_purged (keeps tt) st.1.1 }
@@ -159,23 +161,23 @@ module _ (s : NodeState) (asked : Asked) (at : ℕ) (t : TableState) (q : Stores
   abbrev ask : Ask
   ask = ask_seen asked.ask
 
-  abbrev told : Option Contact
-  told = notify_by s.policy asked.read_only ask asked.from
+  abbrev told : Option TableCall
+  told = notify_by s.policy asked.read_only (proof_of asked.arguments) ask asked.from
 
   abbrev Left : Type 0
   Left = Leaves s asked.from at asked.tx.now ask told t q
 
-  told_leaves : (c : Contact) (g : Gained) (did : List Did) → told ≡ Some c → IsFor (wants_of (setting_of s) asked.from at ask) g
-      → Steps s.table (stores_of s) (did_for s.k at (wants_of (setting_of s) asked.from at ask) g ++ on_table (Seen c) NoMemory ∷ []) t q → Left
-  told_leaves c g did is fits st =
+  told_leaves : (call : TableCall) (g : Gained) (did : List Did) → told ≡ Some call → IsFor (wants_of (setting_of s) asked.from at ask) g
+      → Steps s.table (stores_of s) (did_for (setting_of s) at (wants_of (setting_of s) asked.from at ask) g ++ on_table call NoMemory ∷ []) t q → Left
+  told_leaves call g did is fits st =
       let S = setting_of s in
-      let ds = did_for s.k at (wants_of S asked.from at ask) g in
-      let mid = steps_cut s.table t (stores_of s) q ds (on_table (Seen c) NoMemory ∷ []) st in
-      let shown = shows s asked.from at asked.tx.now mid.table mid.stores ask ds (main_calls S asked at g fits) (did_memory s.k at (wants_of S asked.from at ask) g fits) mid.first in
+      let ds = did_for (setting_of s) at (wants_of S asked.from at ask) g in
+      let mid = steps_cut s.table t (stores_of s) q ds (on_table call NoMemory ∷ []) st in
+      let shown = shows s asked.from at asked.tx.now mid.table mid.stores ask ds (main_calls S asked at g fits) (did_memory (setting_of s) at (wants_of S asked.from at ask) g fits) mid.first in
       let m = answer_with S asked.from at asked.tx.now ask (map reply_of ds ++ []) in
       record {
-        table = mid.rest.1.0 ∙ shown.table;
-        stores = whole m (some_is told c is) (subst (λ x. RepliesWith s asked.from at asked.tx.now ask (record { message = m; stores = x })) (sym mid.rest.1.1) (shown.replies []));
+        table = mid.rest.1.0 ∙ none_after mid.table call ∙ shown.table;
+        stores = whole m (some_is told call is) (subst (λ x. RepliesWith s asked.from at asked.tx.now ask (record { message = m; stores = x })) (sym mid.rest.1.1) (shown.replies []));
       }
 
   ends_leaves : (did : List Did) → Ends (setting_of s) asked at did → Steps s.table (stores_of s) did t q → Left
@@ -185,26 +187,29 @@ module _ (s : NodeState) (asked : Asked) (at : ℕ) (t : TableState) (q : Stores
   ends_leaves did (gathering h) st = fails_leaves s asked.from at asked.tx.now ask told t q (wants_of (setting_of s) asked.from at ask) (placing s asked.from at ask) (keeping s asked.from at ask) did h st
   ends_leaves did (composing g fits fails e) st =
       gained_leaves s asked.from at asked.tx.now ask told t q (wants_of (setting_of s) asked.from at ask) g fits (placing s asked.from at ask) (keeping s asked.from at ask) fails (subst (λ d. Steps s.table (stores_of s) d t q) e st)
-  ends_leaves did (telling c g is fits e) st = told_leaves c g did is fits (subst (λ d. Steps s.table (stores_of s) d t q) e st)
+  ends_leaves did (telling call g is fits e) st = told_leaves call g did is fits (subst (λ d. Steps s.table (stores_of s) d t q) e st)
 
-pub ended : (s : ServeSetting) (o u : Own) (asked : Asked) (at : ℕ) → StopsAt own_does s asked at o u → EndsAsked (node_of s o) asked at (node_of s u)
-ended s o u asked at h =
-    let left = ends_leaves (node_of s o) asked at u.table (own_stores u) h.did h.ends (own_steps o u h.did h.run) in
+pub ended : (s : ServeSetting) (o u : Own) (asked : Asked) (at : ℕ) → s.proof ≡ None → StopsAt own_does s asked at o u → EndsAsked (node_of s o) asked at (node_of s u)
+ended s o u asked at none h =
+    let same = ap (λ (p : Option Proof). record { own = s.own; k = s.k; policy = s.policy; proofs = s.proofs; tokens = s.tokens; sealed = s.sealed; proof = p }) none in
+    let ends = subst (λ (x : ServeSetting). Ends x asked at h.did) same h.ends in
+    let left = ends_leaves (node_of s o) asked at u.table (own_stores u) h.did ends (own_steps o u h.did h.run) in
     record { stores = left.stores; rest = ap (λ t. with_parts (node_of s o) t (own_stores u)) left.table }
 
 pub ends_of : (s : NodeState) (from : Addr) (bytes : List ℕ) (asked : Asked) (at : ℕ) (next : NodeState) → IsAsked from bytes asked → EndsAsked s asked at next → EndsEarly s from bytes at next
 ends_of s from bytes asked at next is ends = record {
   tx = asked.tx.now;
   read_only = asked.read_only;
+  proof = proof_of asked.arguments;
   ask = ask_seen asked.ask;
   query = is.query;
-  stores = subst (λ (f : Addr). LeavesStores s f at asked.tx.now (ask_seen asked.ask) (notify_by s.policy asked.read_only (ask_seen asked.ask) f) (stores_of next)) is.from_is ends.stores;
+  stores = subst (λ (f : Addr). LeavesStores s f at asked.tx.now (ask_seen asked.ask) (notify_by s.policy asked.read_only (proof_of asked.arguments) (ask_seen asked.ask) f) (stores_of next)) is.from_is ends.stores;
   rest = ends.rest;
 }
 
 -- what a node's own answer is, by how it ended
-module _ (tag_of : Tags) (s : ServeSetting) (o u : Own) (asked : Asked) (at : ℕ) (out : List ℕ) where
+module _ (tag_of : Tags) (s : ServeSetting) (o u : Own) (asked : Asked) (at : ℕ) (out : List ℕ) (none : s.proof ≡ None) where
   pub answers_own : (r : Result ℕ Lacks) → IfOk r (λ n. RepliesTo own_does tag_of s asked at (take n out) o u) → OnErr r (StopsAt own_does s asked at o u)
       → (u.table.own ≡ o.table.own) × IfOk r (λ n. AnswersAsked tag_of (node_of s o) asked at (take n out) (node_of s u)) × OnErr r (EndsAsked (node_of s o) asked at (node_of s u))
   answers_own (Ok n) ok err = (kept_own o u ok.did ok.run, answered tag_of s o u asked at (take n out) ok, tt)
-  answers_own (Err e) ok err = (kept_own o u err.did err.run, tt, ended s o u asked at err)
+  answers_own (Err e) ok err = (kept_own o u err.did err.run, tt, ended s o u asked at none err)

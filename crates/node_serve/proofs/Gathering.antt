@@ -1,20 +1,31 @@
--- How much a call gives at most, and what a call gives whatever number its clause is for.
+-- How much a call gives at most, and what a call gives whatever setting its clause is for.
 use Rattle.std.proofs.Common.{◌≡◌, ◌≤◌, ℕ, List, length, take, Bool, true, false, cond, Result, Ok, Err, IfOk, ap, arith}
 use Rattle.std.specs.Prelude.{OnErr, nat_lt}
-use Rattle.std.proofs.lemmas.List.{length-take}
+use Rattle.std.proofs.lemmas.List.{length-map, length-take}
 use Rattle.kad_base.specs.declared.types.Id.{Id}
 use Rattle.kad_base.specs.declared.types.Addr.{Addr}
 use Rattle.kad_base.specs.declared.types.Contact.{Contact}
 use Rattle.kad_base.specs.declared.types.NoMemory.{NoMemory}
+use Rattle.kad_base.specs.declared.types.Report.{Report}
 use Rattle.node_serve.specs.declared.composing.Gained.{Gained}
+use Rattle.node_serve.specs.declared.setting.ServeSetting.{ServeSetting}
 use Rattle.kad_distance.specs.KClosest.{k_closest}
 use Rattle.kad_distance.proofs.Chosen.{closest_few}
 use Rattle.contact_table.specs.TableState.{TableState}
 use Rattle.contact_table.specs.TableStep.{contacts_of}
+use Rattle.contact_table.specs.Vouched.{proof_beside, reports_of}
 use Rattle.peer_store.specs.Peers.{PeersState, listed_from, peers_of, held_of, fresh_of, around, point}
 
 pub closest_short : (t : TableState) (target : Id) (n : ℕ) (list : List Contact) → list ≡ k_closest target n (contacts_of t) → length list ≤ n
 closest_short t target n list e = (let few = closest_few target n (contacts_of t) in let len = ap length e in omega (arith, few, len))
+
+pub reports_short : (t : TableState) (target : Id) (n : ℕ) (reports : List Report) → reports ≡ reports_of t.proofs (k_closest target n (contacts_of t)) → length reports ≤ n
+reports_short t target n reports e =
+    let cs = k_closest target n (contacts_of t) in
+    let few = closest_few target n (contacts_of t) in
+    let same = length-map {B = Report} cs (λ (c : Contact). record { contact = c; proof = proof_beside t.proofs c }) in
+    let len = ap length e in
+    omega (arith, few, same, len)
 
 few_of : (b : Bool) (xs ys : List Addr) → length (cond b (take 50 xs) (take 50 ys)) ≤ 50
 few_of true xs ys = (let few = length-take 50 xs in omega (arith, few))
@@ -27,10 +38,10 @@ listed_short p key at first list e =
     let len = ap length e in
     omega (arith, few, len)
 
-pub ok_at : (r : Result Gained NoMemory) (P : ℕ → Gained → Type 0) (k : ℕ) → IfOk r (λ x. (n : ℕ) → P n x) → IfOk r (P k)
-ok_at (Ok x) P k h = h k
-ok_at (Err e) P k h = tt
+pub ok_at : (r : Result Gained NoMemory) (P : ServeSetting → Gained → Type 0) (s : ServeSetting) → IfOk r (λ x. (t : ServeSetting) → P t x) → IfOk r (P s)
+ok_at (Ok x) P s h = h s
+ok_at (Err e) P s h = tt
 
-pub err_at : (r : Result Gained NoMemory) (P : ℕ → Type 0) (k : ℕ) → OnErr r ((n : ℕ) → P n) → OnErr r (P k)
-err_at (Ok x) P k h = tt
-err_at (Err e) P k h = h k
+pub err_at : (r : Result Gained NoMemory) (P : ServeSetting → Type 0) (s : ServeSetting) → OnErr r ((t : ServeSetting) → P t) → OnErr r (P s)
+err_at (Ok x) P s h = tt
+err_at (Err e) P s h = h s

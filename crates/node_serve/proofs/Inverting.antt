@@ -1,14 +1,10 @@
 -- What was done, from the calls that were made.
 use Rattle.std.proofs.Common.{◌≡◌, ◌≢◌, ℕ, List, [], ◌∷◌, ◌++◌, map, refl, sym, ap, subst, ◌∙◌}
 use Rattle.kad_base.specs.declared.types.Id.{Id}
-use Rattle.kad_distance.specs.KClosest.{k_closest}
-use Rattle.contact_table.specs.TableState.{TableState}
-use Rattle.contact_table.specs.TableStep.{TableStep, contacts_of}
 use Rattle.contact_table.specs.Told.{HasMemory}
 use Rattle.contact_table.specs.declared.calls.TableCall.{TableCall}
-use Rattle.contact_table.specs.declared.calls.TableCall.TheVariants.{Closest}
 use Rattle.contact_table.specs.declared.calls.TableReply.{TableReply}
-use Rattle.contact_table.specs.declared.calls.TableReply.TheVariants.{Seen, Gone, List as List_reply, Crowded as Host_crowded, NoMemory}
+use Rattle.contact_table.specs.declared.calls.TableReply.TheVariants.{Seen, Gone, List as List_reply, Reports as Reports_reply, Crowded as Host_turned_away, NoMemory}
 use Rattle.peer_store.specs.Peers.{PeersState, listed_from}
 use Rattle.peer_store.specs.declared.calls.PeerCall.{PeerCall}
 use Rattle.peer_store.specs.declared.calls.PeerCall.TheVariants.{List as List_call}
@@ -148,13 +144,6 @@ item_and_table item table (d ∷ did) e =
 
 -- ---- what was replied, where there was memory
 
-pub closest_is : (t : TableState) (target : Id) (n : ℕ) (reply : TableReply) → TableStep t 0 (Closest target n) reply → HasMemory reply → reply ≡ List_reply (k_closest target n (contacts_of t))
-closest_is t target n (List_reply list) step memory = ap List_reply step
-closest_is t target n NoMemory step memory = absurd memory
-closest_is t target n (Seen seen) step memory = absurd step
-closest_is t target n (Gone gone) step memory = absurd step
-closest_is t target n Host_crowded step memory = absurd step
-
 pub listed_is : (held : PeersState) (key : Id) (at : ℕ) (first : List ℕ) (reply : PeerReply) → PeersStep held 0 (List_call key at first) reply → HasRoom reply → reply ≡ Listed (listed_from held key at first)
 listed_is held key at first (Listed list) step memory = ap Listed step
 listed_is held key at first No_room step memory = absurd memory
@@ -174,7 +163,8 @@ pub had_memory : (x : TableReply) → x ≢ NoMemory → HasMemory x
 had_memory (Seen seen) h = tt
 had_memory (Gone gone) h = tt
 had_memory (List_reply list) h = tt
-had_memory Host_crowded h = tt
+had_memory (Reports_reply reports) h = tt
+had_memory Host_turned_away h = tt
 had_memory NoMemory h = absurd (h refl)
 
 pub not_wanting : (x : TableReply) → HasMemory x → x ≢ NoMemory

@@ -4,13 +4,16 @@ pub mod Ending
 pub mod Few
 pub mod Gathering
 pub mod Inverting
+pub mod Nearby
 pub mod Once
 pub mod OneService
+pub mod Passing
 pub mod Picking
 pub mod Reading
 pub mod Receiving
 pub mod Responding
 pub mod Same
 pub mod Small
+pub mod Solving
 pub mod Tagging
 pub mod Wanted

@@ -2,12 +2,12 @@
 use Rattle.std.proofs.Common.{◌≡◌, ◌≢◌, ℕ, ◌<◌, ◌≤◌, length, arith, Bool, true, false, List, Option, Some, None, refl, sym, ap, subst, ◌∙◌}
 use Rattle.kad_base.specs.declared.types.Id.{Id}
 use Rattle.kad_base.specs.declared.types.Addr.{Addr}
-use Rattle.kad_base.specs.declared.types.Contact.{Contact}
+use Rattle.kad_base.specs.declared.types.Proof.{Proof}
 use Rattle.kad_krpc.specs.declared.message.Ask.{Ask}
 use Rattle.kad_krpc.specs.declared.message.Ask.TheVariants.{Ping, FindNode, GetPeers, AnnouncePeer, Get as GetItem, Put as PutItem, Other}
 use Rattle.kad_krpc.specs.declared.message.Message.{Message}
 use Rattle.kad_krpc.specs.declared.message.Message.TheVariants as message
-use Rattle.contact_table.specs.declared.calls.TableCall.TheVariants.{Seen}
+use Rattle.contact_table.specs.declared.calls.TableCall.{TableCall}
 use Rattle.contact_table.specs.declared.calls.TableReply.{TableReply}
 use Rattle.contact_table.specs.declared.calls.TableReply.TheVariants as reply
 use Rattle.contact_table.specs.TableState.{TableState, SoundTable}
@@ -20,14 +20,15 @@ use Rattle.contact_table.proofs.Outcome.{one-state}
 
 -- ---- the query
 
-same_tx : (t u : List ℕ) (r q : Bool) (a b : Ask) → message.Query t r a ≡ message.Query u q b → t ≡ u
-same_tx t u r q a b e = cc
+-- the parts of two queries
+pub record SameQuery (t u : List ℕ) (r q : Bool) (o p : Option Proof) (a b : Ask) : Type 0 where
+  pub tx : t ≡ u
+  pub mark : r ≡ q
+  pub proof : o ≡ p
+  pub ask : a ≡ b
 
-same_mark : (t u : List ℕ) (r q : Bool) (a b : Ask) → message.Query t r a ≡ message.Query u q b → r ≡ q
-same_mark t u r q a b e = cc
-
-same_ask : (t u : List ℕ) (r q : Bool) (a b : Ask) → message.Query t r a ≡ message.Query u q b → a ≡ b
-same_ask t u r q a b e = cc
+same_query : (t u : List ℕ) (r q : Bool) (o p : Option Proof) (a b : Ask) → message.Query t r o a ≡ message.Query u q p b → SameQuery t u r q o p a b
+same_query t u r q o p a b e = record { tx = cc; mark = cc; proof = cc; ask = cc }
 
 -- ---- the reply
 
@@ -90,27 +91,29 @@ has_memory : (x : TableReply) → x ≢ reply.NoMemory → HasMemory x
 has_memory (reply.Seen seen) h = tt
 has_memory (reply.Gone gone) h = tt
 has_memory (reply.List list) h = tt
+has_memory (reply.Reports reports) h = tt
 has_memory reply.Crowded h = tt
 has_memory reply.NoMemory h = absurd (h refl)
 
-told_once : (o : Option Contact) (t x y : TableState) → SoundTable t → IsTold o t x → IsTold o t y → x ≡ y
+told_once : (o : Option TableCall) (t x y : TableState) → SoundTable t → IsTold o t x → IsTold o t y → x ≡ y
 told_once None t x y sound h k = h ∙ sym k
-told_once (Some c) t x y sound h k =
-    h.leaves ∙ one-state t 0 0 (Seen c) h.reply k.reply sound h.step k.step (has_memory h.reply h.kept) (has_memory k.reply k.kept) ∙ sym k.leaves
+told_once (Some call) t x y sound h k =
+    h.leaves ∙ one-state t 0 0 call h.reply k.reply sound h.step k.step (has_memory h.reply h.kept) (has_memory k.reply k.kept) ∙ sym k.leaves
 
 -- ---- the answer
 
 module _ (s : NodeState) (from : Addr) (bytes : List ℕ) (at : ℕ) (m n : Message) (x y : NodeState) (a : AnswerOf s from bytes at m x) (b : AnswerOf s from bytes at n y) where
-  query_same : message.Query a.tx a.read_only a.ask ≡ message.Query b.tx b.read_only b.ask
-  query_same = one_said bytes (message.Query a.tx a.read_only a.ask) (message.Query b.tx b.read_only b.ask) a.query.says b.query.says
+  query_same : SameQuery a.tx b.tx a.read_only b.read_only a.proof b.proof a.ask b.ask
+  query_same =
+      same_query a.tx b.tx a.read_only b.read_only a.proof b.proof a.ask b.ask
+      (one_said bytes (message.Query a.tx a.read_only a.proof a.ask) (message.Query b.tx b.read_only b.proof b.ask) a.query.says b.query.says)
 
   outcome_same : ◌≡◌ {A = Outcome} (record { message = m; stores = stores_of x }) (record { message = n; stores = stores_of y })
   outcome_same =
-      let t = same_tx a.tx b.tx a.read_only b.read_only a.ask b.ask query_same in
-      let q = same_ask a.tx b.tx a.read_only b.read_only a.ask b.ask query_same in
+      let same = query_same in
       replies_once s from at b.tx b.ask (record { message = m; stores = stores_of x }) (record { message = n; stores = stores_of y })
-      (subst (λ ask. RepliesWith s from at b.tx ask (record { message = m; stores = stores_of x })) q
-      (subst (λ tx. RepliesWith s from at tx a.ask (record { message = m; stores = stores_of x })) t a.replies))
+      (subst (λ ask. RepliesWith s from at b.tx ask (record { message = m; stores = stores_of x })) same.ask
+      (subst (λ tx. RepliesWith s from at tx a.ask (record { message = m; stores = stores_of x })) same.tx a.replies))
       b.replies
 
   pub one_reply : m ≡ n
@@ -118,12 +121,12 @@ module _ (s : NodeState) (from : Addr) (bytes : List ℕ) (at : ℕ) (m n : Mess
 
   pub one_next : SoundTable s.table → x ≡ y
   one_next sound =
-      let r = same_mark a.tx b.tx a.read_only b.read_only a.ask b.ask query_same in
-      let q = same_ask a.tx b.tx a.read_only b.read_only a.ask b.ask query_same in
-      let told : IsTold (notify_by s.policy b.read_only b.ask from) s.table x.table =
-      subst (λ mark. IsTold (notify_by s.policy mark b.ask from) s.table x.table) r
-      (subst (λ ask. IsTold (notify_by s.policy a.read_only ask from) s.table x.table) q a.told) in
-      let table = told_once (notify_by s.policy b.read_only b.ask from) s.table x.table y.table sound told b.told in
+      let same = query_same in
+      let told : IsTold (notify_by s.policy b.read_only b.proof b.ask from) s.table x.table =
+      subst (λ mark. IsTold (notify_by s.policy mark b.proof b.ask from) s.table x.table) same.mark
+      (subst (λ proof. IsTold (notify_by s.policy a.read_only proof b.ask from) s.table x.table) same.proof
+      (subst (λ ask. IsTold (notify_by s.policy a.read_only a.proof ask from) s.table x.table) same.ask a.told)) in
+      let table = told_once (notify_by s.policy b.read_only b.proof b.ask from) s.table x.table y.table sound told b.told in
       let stores = ap (λ (o : Outcome). o.stores) outcome_same in
       a.rest
       ∙ ap (λ t. with_parts s t (stores_of x)) table

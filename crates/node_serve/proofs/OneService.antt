@@ -1,14 +1,12 @@
 -- The events of a service by one worker determine what it leaves.
 use Rattle.std.proofs.Common.{◌≡◌, ℕ, zero, suc, Bool, true, false, List, [], ◌∷◌, ◌++◌, Option, Some, None, refl, sym, ap, subst, ◌∙◌}
 use Rattle.kad_base.specs.declared.types.Addr.{Addr}
-use Rattle.kad_base.specs.declared.types.Contact.{Contact}
 use Rattle.kad_base.specs.declared.types.Event.{Event}
 use Rattle.kad_base.specs.declared.types.Event.TheVariants.{Got, Quiet, Sent, Unsent}
-use Rattle.kad_krpc.specs.declared.message.Message.{Message}
 use Rattle.contact_table.specs.TableState.{TableState, SoundTable}
-use Rattle.contact_table.specs.declared.calls.TableCall.TheVariants.{Seen}
+use Rattle.contact_table.specs.declared.calls.TableCall.{TableCall}
 use Rattle.contact_table.proofs.StaysSound.{step-sound}
-use Rattle.node_serve.specs.AnswerOf.{AnswerOf, IsTold, notify_by}
+use Rattle.node_serve.specs.AnswerOf.{IsTold, notify_by}
 use Rattle.node_serve.specs.Lasting.{waits_to}
 use Rattle.node_serve.specs.NodeState.{NodeState}
 use Rattle.node_serve.specs.Receives.{ServeState, Responds, silent, answered, ServesOne, quiet, came, Serves, ServesAll, tried}
@@ -23,14 +21,14 @@ same_state s t node moment =
 
 -- ---- the table stays sound
 
-told_sound : (o : Option Contact) (t x : TableState) → SoundTable t → IsTold o t x → SoundTable x
+told_sound : (o : Option TableCall) (t x : TableState) → SoundTable t → IsTold o t x → SoundTable x
 told_sound None t x sound h = subst SoundTable (sym h) sound
-told_sound (Some c) t x sound h = subst SoundTable (sym h.leaves) (step-sound t 0 (Seen c) h.reply sound h.step)
+told_sound (Some call) t x sound h = subst SoundTable (sym h.leaves) (step-sound t 0 call h.reply sound h.step)
 
 module _ (tag_of : Tags) where
   responds_sound : (s : NodeState) (from : Addr) (bytes : List ℕ) (at : ℕ) (es : List Event) (next : NodeState) → SoundTable s.table → Responds tag_of s from bytes at es next → SoundTable next.table
   responds_sound s from bytes at es next sound (silent is none_ same) = subst (λ (n : NodeState). SoundTable n.table) (sym same) sound
-  responds_sound s from bytes at es next sound (answered reply was_sent a e) = told_sound (notify_by s.policy a.read_only a.ask from) s.table next.table sound a.told
+  responds_sound s from bytes at es next sound (answered reply was_sent a e) = told_sound (notify_by s.policy a.read_only a.proof a.ask from) s.table next.table sound a.told
 
   module _ (limit : Option ℕ) where
     one_sound : (s t : ServeState) (es : List Event) → SoundTable s.node.table → ServesOne tag_of limit s es t → SoundTable t.node.table

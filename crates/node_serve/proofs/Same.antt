@@ -9,8 +9,6 @@ use Rattle.std.proofs.lemmas.List.{map-append}
 use Rattle.std.proofs.lemmas.List.Elements.{All-nil, All-cons, All-head, All-tail, All-append}
 use Rattle.kad_base.specs.declared.types.Id.{Id}
 use Rattle.kad_base.specs.declared.types.Addr.{Addr}
-use Rattle.kad_base.specs.declared.types.Contact.{Contact}
-use Rattle.kad_distance.specs.KClosest.{k_closest}
 use Rattle.kad_krpc.specs.declared.message.Ask.{Ask}
 use Rattle.kad_krpc.specs.declared.message.Ask.TheVariants.{Ping, FindNode, GetPeers, AnnouncePeer, Get as GetItem, Put as PutItem, Other}
 use Rattle.kad_krpc.specs.declared.message.Port.{Port}
@@ -18,10 +16,10 @@ use Rattle.kad_krpc.specs.declared.message.Want.{Want}
 use Rattle.kad_krpc.specs.declared.message.Message.{Message}
 use Rattle.kad_krpc.specs.Records.{ip_bytes}
 use Rattle.contact_table.specs.TableState.{TableState}
-use Rattle.contact_table.specs.TableStep.{table_after, contacts_of}
-use Rattle.contact_table.specs.declared.calls.TableCall.TheVariants.{Seen, Closest}
+use Rattle.contact_table.specs.TableStep.{TableStep, table_after}
+use Rattle.contact_table.specs.Told.{HasMemory}
+use Rattle.contact_table.specs.declared.calls.TableCall.{TableCall}
 use Rattle.contact_table.specs.declared.calls.TableReply.{TableReply}
-use Rattle.contact_table.specs.declared.calls.TableReply.TheVariants.{List as List_reply}
 use Rattle.aged_map.specs.declared.aged.Stored.{Stored}
 use Rattle.aged_map.specs.declared.aged.Stored.TheVariants.{New, Renewed}
 use Rattle.peer_store.specs.Peers.{PeersState, Pair, pair_cmp, purged, with_add, listed_from}
@@ -37,13 +35,16 @@ use Rattle.node_serve.specs.Replies.{Announces, Puts, IsTaken, Outcome, RepliesW
 use Rattle.peer_store.specs.declared.calls.PeerCall.TheVariants.{List as List_call, Put}
 use Rattle.peer_store.specs.declared.calls.PeerReply.{PeerReply}
 use Rattle.peer_store.specs.declared.calls.PeerReply.TheVariants.{Listed, Stored as Stored_reply, Crowded as Host_full, Full, NoMemory}
+use Rattle.node_serve.specs.declared.nodes.Near.{Near}
 use Rattle.node_serve.specs.declared.setting.ServeSetting.{ServeSetting}
-use Rattle.node_serve.specs.Calls.{of_peers, of_items, Reply, by_peers, by_items, Did, on_table, on_peers, on_items, call_of, reply_of, HadMemory, HasItemRoom, is_accepted, put_calls, calls_for, calls_told, listed_by, peers_by, item_by, found_from, peers_from, item_from, put_in, kept_in, put_reply, answer_with}
-use Rattle.node_serve.specs.Gains.{item_reply}
+use Rattle.node_serve.specs.Calls.{of_peers, of_items, Reply, by_peers, by_items, Did, on_table, on_peers, on_items, call_of, reply_of, HadMemory, HasItemRoom, is_accepted, near_call, put_calls, calls_for, calls_told, near_by, peers_by, item_by, peers_from, item_from, put_in, kept_in, put_reply, answer_with}
+use Rattle.node_serve.specs.Gains.{item_reply, near_reply}
 use Rattle.node_serve.specs.AnswerBy.{setting_of, Steps, AnswerBy}
 use Rattle.peer_store.specs.PeersStep.{peers_after}
 use Rattle.node_serve.proofs.Accepting.{accepted, fails}
-use Rattle.node_serve.proofs.Inverting.{cut, made_none, one_table, one_peer, one_item, peer_and_table, item_and_table, closest_is, listed_is, item_is, had_memory, not_wanting}
+use Rattle.node_serve.proofs.Inverting.{cut, made_none, one_table, one_peer, one_item, peer_and_table, item_and_table, listed_is, item_is, had_memory, not_wanting}
+use Rattle.node_serve.proofs.Nearby.{near_at, asks_near, near_step, near_after, near_back, near_given, found_of, peers_of, item_of}
+use Rattle.node_serve.proofs.Wanted.{near_memory}
 
 -- ---- steps in two parts
 
@@ -111,6 +112,12 @@ module _ (s : NodeState) (from : Addr) (at : ℕ) (tx : List ℕ) where
   abbrev S : ServeSetting
   S = setting_of s
 
+  near_stepped : (target : Id) → TableStep s.table 0 (near_call s.policy target s.k) (near_reply (near_at s target))
+  near_stepped target = near_step s.policy s.table target s.k
+
+  near_left : (target : Id) → s.table ≡ table_after s.table 0 (near_call s.policy target s.k) (near_reply (near_at s target))
+  near_left target = sym (near_after s.policy s.table target s.k (near_reply (near_at s target)))
+
   abbrev takes : List ℕ → Bool
   takes token = is_accepted s.tokens (ip_bytes from.ip) at token
 
@@ -159,13 +166,14 @@ module _ (s : NodeState) (from : Addr) (at : ℕ) (tx : List ℕ) where
   item_part id key want o sound e =
       let found = handed_out s.items key at in
       let d : Did = on_items (Get_call key at) (item_reply found) in
-      let f : Did = on_table (Closest key s.k) (List_reply (k_closest key s.k (contacts_of s.table))) in
+      let n : Near = near_at s key in
+      let f : Did = asks_near s key in
       record {
         did = d ∷ f ∷ [];
         calls = refl;
-        memory = All-cons HadMemory d (f ∷ []) (got_memory d found) (All-cons HadMemory f [] tt (All-nil HadMemory));
-        steps = (get_step s.items key at sound found refl, (refl, (refl, ap (λ (x : Outcome). x.stores) e)));
-        reply = λ more. ap (λ (x : Outcome). x.message) e ∙ ap (λ v. item_from tx S from at v (k_closest key s.k (contacts_of s.table))) (got_same found);
+        memory = All-cons HadMemory d (f ∷ []) (got_memory d found) (All-cons HadMemory f [] (near_memory n) (All-nil HadMemory));
+        steps = (get_step s.items key at sound found refl, (near_stepped key, (near_left key, ap (λ (x : Outcome). x.stores) e)));
+        reply = λ more. ap (λ (x : Outcome). x.message) e ∙ sym (item_of s from at tx key found (near_by (near_reply n)) (near_back n)) ∙ ap (λ v. item_from tx S from at v (near_by (near_reply n))) (got_same found);
       }
 
   put_part : (id : Id) (token v : List ℕ) (mutable : Bool) (o : Outcome) → Puts s from at tx token v mutable o → Part s from at tx (PutItem id token v mutable) o
@@ -236,18 +244,26 @@ module _ (s : NodeState) (from : Addr) (at : ℕ) (tx : List ℕ) where
   part : (ask : Ask) (o : Outcome) → IsItems s.items → RepliesWith s from at tx ask o → Part s from at tx ask o
   part (Ping id) o sound e = record { did = []; calls = refl; memory = All-nil HadMemory; steps = (refl, ap (λ (x : Outcome). x.stores) e); reply = λ more. ap (λ (x : Outcome). x.message) e }
   part (FindNode id target want) o sound e =
-      let d : Did = on_table (Closest target s.k) (List_reply (k_closest target s.k (contacts_of s.table))) in
-      record { did = d ∷ []; calls = refl; memory = All-cons HadMemory d [] tt (All-nil HadMemory); steps = (refl, (refl, ap (λ (x : Outcome). x.stores) e)); reply = λ more. ap (λ (x : Outcome). x.message) e }
+      let n : Near = near_at s target in
+      let d : Did = asks_near s target in
+      record {
+        did = d ∷ [];
+        calls = refl;
+        memory = All-cons HadMemory d [] (near_memory n) (All-nil HadMemory);
+        steps = (near_stepped target, (near_left target, ap (λ (x : Outcome). x.stores) e));
+        reply = λ more. ap (λ (x : Outcome). x.message) e ∙ sym (found_of s from at tx target (near_by (near_reply n)) (near_back n));
+      }
   part (GetPeers id key want) o sound e =
       let first : List ℕ = point_for s.tokens from at key in
       let d : Did = on_peers (List_call key at first) (Listed (listed_from s.peers key at first)) in
-      let f : Did = on_table (Closest key s.k) (List_reply (k_closest key s.k (contacts_of s.table))) in
+      let n : Near = near_at s key in
+      let f : Did = asks_near s key in
       record {
         did = d ∷ f ∷ [];
         calls = refl;
-        memory = All-cons HadMemory d (f ∷ []) tt (All-cons HadMemory f [] tt (All-nil HadMemory));
-        steps = (refl, (refl, (refl, ap (λ (x : Outcome). x.stores) e)));
-        reply = λ more. ap (λ (x : Outcome). x.message) e;
+        memory = All-cons HadMemory d (f ∷ []) tt (All-cons HadMemory f [] (near_memory n) (All-nil HadMemory));
+        steps = (refl, (near_stepped key, (near_left key, ap (λ (x : Outcome). x.stores) e)));
+        reply = λ more. ap (λ (x : Outcome). x.message) e ∙ sym (peers_of s from at tx key (listed_from s.peers key at first) (near_by (near_reply n)) (near_back n));
       }
   part (AnnouncePeer id key port token) o sound e = announced_part id key port token o e
   part (GetItem id key want) o sound e = item_part id key want o sound e
@@ -255,26 +271,27 @@ module _ (s : NodeState) (from : Addr) (at : ℕ) (tx : List ℕ) where
   part (Other method) o sound e = record { did = []; calls = refl; memory = All-nil HadMemory; steps = (refl, ap (λ (x : Outcome). x.stores) e); reply = λ more. ap (λ (x : Outcome). x.message) e }
 
 -- the table is told of the asker
-pub record ToldPart (o : Option Contact) (t u : TableState) (p : Stores) : Type 0 where
+pub record ToldPart (o : Option TableCall) (t u : TableState) (p : Stores) : Type 0 where
   pub did : List Did
   pub calls : map call_of did ≡ calls_told o
   pub memory : All HadMemory did
   pub steps : Steps t p did u p
 
-pub told_part : (o : Option Contact) (t u : TableState) (p : Stores) → IsTold o t u → ToldPart o t u p
+pub told_part : (o : Option TableCall) (t u : TableState) (p : Stores) → IsTold o t u → ToldPart o t u p
 told_part None t u p h = record { did = []; calls = refl; memory = All-nil HadMemory; steps = (h, refl) }
-told_part (Some c) t u p h =
-    let d : Did = on_table (Seen c) h.reply in
+told_part (Some call) t u p h =
+    let d : Did = on_table call h.reply in
     record { did = d ∷ []; calls = refl; memory = All-cons HadMemory d [] (had_memory h.reply h.kept) (All-nil HadMemory); steps = (h.step, (h.leaves, refl)) }
 
 pub by_calls : (s : NodeState) (from : Addr) (bytes : List ℕ) (at : ℕ) (m : Message) (x : NodeState) → AnswerOf s from bytes at m x → IsItems s.items → AnswerBy s from bytes at m x
 by_calls s from bytes at m x a sound =
     let S = setting_of s in
     let main = part s from at a.tx a.ask (record { message = m; stores = stores_of x }) sound a.replies in
-    let told = told_part (notify_by s.policy a.read_only a.ask from) s.table x.table (stores_of x) a.told in
+    let told = told_part (notify_by s.policy a.read_only a.proof a.ask from) s.table x.table (stores_of x) a.told in
     record {
       tx = a.tx;
       read_only = a.read_only;
+      proof = a.proof;
       ask = a.ask;
       query = a.query;
       did = main.did ++ told.did;
@@ -305,10 +322,6 @@ steps_cut t v p r (on_items call reply ∷ xs) ys st =
     let m = steps_cut t v (record { peers = p.peers; items = item_after p.items 0 call reply }) r xs ys st.1 in
     record { table = m.table; stores = m.stores; first = (st.0, m.first); rest = m.rest }
 
-closest_after : (t : TableState) (target : Id) (n : ℕ) (reply : TableReply) → table_after t 0 (Closest target n) reply ≡ t
-closest_after t target n (List_reply list) = refl
-closest_after t target n other = refl
-
 all_front : (xs ys : List Did) → All HadMemory (xs ++ ys) → All HadMemory xs
 all_front [] ys a = All-nil HadMemory
 all_front (x ∷ xs) ys a = All-cons HadMemory x xs (All-head HadMemory x (xs ++ ys) a) (all_front xs ys (All-tail HadMemory x (xs ++ ys) a))
@@ -326,38 +339,42 @@ module _ (s : NodeState) (from : Addr) (at : ℕ) (tx : List ℕ) (u : TableStat
   abbrev pub Shows : Ask → List Did → Type 0
   Shows ask did = All HadMemory did → Steps s.table (stores_of s) did u q → Replied ask did
 
-  found_shows : (id target : Id) (want : Want) (reply : TableReply) → Shows (FindNode id target want) (on_table (Closest target s.k) reply ∷ [])
+  -- what the question for the closest contacts gave
+  given_near : (target : Id) (reply : TableReply) → TableStep s.table 0 (near_call s.policy target s.k) reply → HasMemory reply → near_by reply ≡ near_at s target
+  given_near target reply step memory = near_given s.policy s.table target s.k reply step memory
+
+  found_shows : (id target : Id) (want : Want) (reply : TableReply) → Shows (FindNode id target want) (on_table (near_call s.policy target s.k) reply ∷ [])
   found_shows id target want reply memory st =
-      let is = closest_is s.table target s.k reply st.0 (All-head HadMemory (on_table (Closest target s.k) reply) [] memory) in
+      let is = given_near target reply st.0 (All-head HadMemory (on_table (near_call s.policy target s.k) reply) [] memory) in
       record {
-        table = st.1.0 ∙ closest_after s.table target s.k reply;
-        replies = λ more. outcome_is _ _ q (stores_of s) (ap (λ x. found_from tx (setting_of s) (listed_by x)) is) st.1.1;
+        table = st.1.0 ∙ near_after s.policy s.table target s.k reply;
+        replies = λ more. outcome_is _ _ q (stores_of s) (found_of s from at tx target (near_by reply) is) st.1.1;
       }
 
-  peers_shows : (id key : Id) (want : Want) (peers : PeerReply) (nodes : TableReply) → Shows (GetPeers id key want) (on_peers (List_call key at (point_for s.tokens from at key)) peers ∷ on_table (Closest key s.k) nodes ∷ [])
+  peers_shows : (id key : Id) (want : Want) (peers : PeerReply) (nodes : TableReply) → Shows (GetPeers id key want) (on_peers (List_call key at (point_for s.tokens from at key)) peers ∷ on_table (near_call s.policy key s.k) nodes ∷ [])
   peers_shows id key want peers nodes memory st =
       let point : List ℕ = point_for s.tokens from at key in
       let d : Did = on_peers (List_call key at point) peers in
-      let f : Did = on_table (Closest key s.k) nodes in
+      let f : Did = on_table (near_call s.policy key s.k) nodes in
       let first = listed_is s.peers key at point peers st.0 (All-head HadMemory d (f ∷ []) memory) in
-      let second = closest_is s.table key s.k nodes st.1.0 (All-head HadMemory f [] (All-tail HadMemory d (f ∷ []) memory)) in
+      let second = given_near key nodes st.1.0 (All-head HadMemory f [] (All-tail HadMemory d (f ∷ []) memory)) in
       record {
-        table = st.1.1.0 ∙ closest_after s.table key s.k nodes;
+        table = st.1.1.0 ∙ near_after s.policy s.table key s.k nodes;
         replies = λ more. outcome_is _ _ q (stores_of s)
-            (ap (λ x. peers_from tx (setting_of s) from at (peers_by x) (listed_by nodes)) first ∙ ap (λ x. peers_from tx (setting_of s) from at (listed_from s.peers key at point) (listed_by x)) second)
+            (ap (λ x. peers_from tx (setting_of s) from at (peers_by x) (near_by nodes)) first ∙ peers_of s from at tx key (listed_from s.peers key at point) (near_by nodes) second)
             st.1.1.1;
       }
 
-  item_shows : (id key : Id) (want : Want) (item : ItemReply) (nodes : TableReply) → Shows (GetItem id key want) (on_items (Get_call key at) item ∷ on_table (Closest key s.k) nodes ∷ [])
+  item_shows : (id key : Id) (want : Want) (item : ItemReply) (nodes : TableReply) → Shows (GetItem id key want) (on_items (Get_call key at) item ∷ on_table (near_call s.policy key s.k) nodes ∷ [])
   item_shows id key want item nodes memory st =
       let d : Did = on_items (Get_call key at) item in
-      let f : Did = on_table (Closest key s.k) nodes in
+      let f : Did = on_table (near_call s.policy key s.k) nodes in
       let first = item_is s.items key at item st.0 (All-head HadMemory d (f ∷ []) memory) in
-      let second = closest_is s.table key s.k nodes st.1.0 (All-head HadMemory f [] (All-tail HadMemory d (f ∷ []) memory)) in
+      let second = given_near key nodes st.1.0 (All-head HadMemory f [] (All-tail HadMemory d (f ∷ []) memory)) in
       record {
-        table = st.1.1.0 ∙ closest_after s.table key s.k nodes;
+        table = st.1.1.0 ∙ near_after s.policy s.table key s.k nodes;
         replies = λ more. outcome_is _ _ q (stores_of s)
-            (ap (λ x. item_from tx (setting_of s) from at x (listed_by nodes)) first ∙ ap (λ x. item_from tx (setting_of s) from at (handed_out s.items key at) (listed_by x)) second)
+            (ap (λ x. item_from tx (setting_of s) from at x (near_by nodes)) first ∙ item_of s from at tx key (handed_out s.items key at) (near_by nodes) second)
             st.1.1.1;
       }
 
@@ -453,40 +470,40 @@ module _ (s : NodeState) (from : Addr) (at : ℕ) (tx : List ℕ) (u : TableStat
   pub shows : (ask : Ask) (did : List Did) → map call_of did ≡ calls_for (setting_of s) from at ask → Shows ask did
   shows (Ping id) did calls = subst (Shows (Ping id)) (sym (made_none did calls)) (λ memory st. record { table = st.0; replies = λ more. outcome_is _ _ q (stores_of s) refl st.1 })
   shows (FindNode id target want) did calls =
-      let one = one_table (Closest target s.k) did calls in
+      let one = one_table (near_call s.policy target s.k) did calls in
       subst (Shows (FindNode id target want)) (sym one.is) (found_shows id target want one.reply)
   shows (GetPeers id key want) did calls =
-      let two = peer_and_table (List_call key at (point_for s.tokens from at key)) (Closest key s.k) did calls in
+      let two = peer_and_table (List_call key at (point_for s.tokens from at key)) (near_call s.policy key s.k) did calls in
       subst (Shows (GetPeers id key want)) (sym two.is) (peers_shows id key want two.peers two.nodes)
   shows (AnnouncePeer id key port token) did calls = announced_shows id key port token did (is_accepted s.tokens (ip_bytes from.ip) at token) refl calls
   shows (GetItem id key want) did calls =
-      let two = item_and_table (Get_call key at) (Closest key s.k) did calls in
+      let two = item_and_table (Get_call key at) (near_call s.policy key s.k) did calls in
       subst (Shows (GetItem id key want)) (sym two.is) (item_shows id key want two.items two.nodes)
   shows (PutItem id token v mutable) did calls = puts_shows id token v mutable did (is_accepted s.tokens (ip_bytes from.ip) at token) mutable refl refl calls
   shows (Other method) did calls = subst (Shows (Other method)) (sym (made_none did calls)) (λ memory st. record { table = st.0; replies = λ more. outcome_is _ _ q (stores_of s) refl st.1 })
 
-pub record WasTold (o : Option Contact) (t v : TableState) (q r : Stores) : Type 0 where
+pub record WasTold (o : Option TableCall) (t v : TableState) (q r : Stores) : Type 0 where
   pub told : IsTold o t v
   pub stores : r ≡ q
 
-seen_shows : (c : Contact) (t v : TableState) (q r : Stores) (reply : TableReply) → All HadMemory (on_table (Seen c) reply ∷ []) → Steps t q (on_table (Seen c) reply ∷ []) v r → WasTold (Some c) t v q r
-seen_shows c t v q r reply memory st = record {
-  told = record { reply = reply; step = st.0; kept = not_wanting reply (All-head HadMemory (on_table (Seen c) reply) [] memory); leaves = st.1.0 };
+made_shows : (call : TableCall) (t v : TableState) (q r : Stores) (reply : TableReply) → All HadMemory (on_table call reply ∷ []) → Steps t q (on_table call reply ∷ []) v r → WasTold (Some call) t v q r
+made_shows call t v q r reply memory st = record {
+  told = record { reply = reply; step = st.0; kept = not_wanting reply (All-head HadMemory (on_table call reply) [] memory); leaves = st.1.0 };
   stores = st.1.1;
 }
 
-told_shows : (o : Option Contact) (t v : TableState) (q r : Stores) (did : List Did) → map call_of did ≡ calls_told o → All HadMemory did → Steps t q did v r → WasTold o t v q r
+told_shows : (o : Option TableCall) (t v : TableState) (q r : Stores) (did : List Did) → map call_of did ≡ calls_told o → All HadMemory did → Steps t q did v r → WasTold o t v q r
 told_shows None t v q r did calls memory st =
     let none : Steps t q [] v r = subst (λ l. Steps t q l v r) (made_none did calls) st in
     record { told = none.0; stores = none.1 }
-told_shows (Some c) t v q r did calls memory st =
-    let one = one_table (Seen c) did calls in
-    seen_shows c t v q r one.reply (subst (All HadMemory) one.is memory) (subst (λ l. Steps t q l v r) one.is st)
+told_shows (Some call) t v q r did calls memory st =
+    let one = one_table call did calls in
+    made_shows call t v q r one.reply (subst (All HadMemory) one.is memory) (subst (λ l. Steps t q l v r) one.is st)
 
 pub by_rules : (s : NodeState) (from : Addr) (bytes : List ℕ) (at : ℕ) (m : Message) (x : NodeState) → AnswerBy s from bytes at m x → AnswerOf s from bytes at m x
 by_rules s from bytes at m x b =
     let S = setting_of s in
-    let o = notify_by s.policy b.read_only b.ask from in
+    let o = notify_by s.policy b.read_only b.proof b.ask from in
     let c = cut (calls_for S from at b.ask) (calls_told o) b.did b.calls in
     let memory : All HadMemory (c.front ++ c.back) = subst (All HadMemory) c.whole b.memory in
     let mid = steps_cut s.table x.table (stores_of s) (stores_of x) c.front c.back (subst (λ l. Steps s.table (stores_of s) l x.table (stores_of x)) c.whole b.steps) in
@@ -497,6 +514,7 @@ by_rules s from bytes at m x b =
     record {
       tx = b.tx;
       read_only = b.read_only;
+      proof = b.proof;
       ask = b.ask;
       query = b.query;
       replies = subst (λ (z : Outcome). RepliesWith s from at b.tx b.ask z) (outcome_is _ m mid.stores (stores_of x) message (sym told.stores)) (main.replies (map reply_of c.back));

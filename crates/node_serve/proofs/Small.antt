@@ -156,12 +156,12 @@ size_ends first tx kind h k =
 
 -- a reply with few parts gives its value by its written form
 pub small_forms : (m : Message) → IsSmall m → HasForms m
-small_forms (message.Query tx read_only ask) h = absurd h
+small_forms (message.Query tx read_only proof ask) h = absurd h
 small_forms (message.Answer tx answer) h = h.1.v
 small_forms (message.Fault tx code text) h = tt
 
 pub small_immutable : (m : Message) → IsSmall m → is_mutable m ≡ false
-small_immutable (message.Query tx read_only ask) h = absurd h
+small_immutable (message.Query tx read_only proof ask) h = absurd h
 small_immutable (message.Answer tx answer) h = refl
 small_immutable (message.Fault tx code text) h = refl
 

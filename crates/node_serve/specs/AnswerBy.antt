@@ -1,7 +1,8 @@
 -- The calls of one node on what it holds, one after another, and what an answer is in their terms.
-use Rattle.std.specs.Prelude.{◌≡◌, ℕ, Bool, List, [], ◌∷◌, map}
+use Rattle.std.specs.Prelude.{None, ◌≡◌, ℕ, Bool, List, [], ◌∷◌, map, Option}
 use Rattle.std.specs.List.{All}
 use Rattle.kad_base.specs.declared.types.Addr.{Addr}
+use Rattle.kad_base.specs.declared.types.Proof.{Proof}
 use Rattle.kad_krpc.specs.declared.message.Ask.{Ask}
 use Rattle.kad_krpc.specs.declared.message.Message.{Message}
 use Rattle.contact_table.specs.TableState.{TableState}
@@ -15,7 +16,7 @@ use Rattle.node_serve.specs.declared.setting.ServeSetting.{ServeSetting}
 
 -- what a node answers by
 abbrev pub setting_of : NodeState → ServeSetting
-setting_of s = record { own = s.own; k = s.k; policy = s.policy; proofs = s.proofs; tokens = s.tokens; sealed = s.sealed }
+setting_of s = record { own = s.own; k = s.k; policy = s.policy; proofs = s.proofs; tokens = s.tokens; sealed = s.sealed; proof = None }
 
 -- the calls are steps, one after another, from a table and stores to a table and stores
 abbrev pub Steps : TableState → Stores → List Did → TableState → Stores → Type 0
@@ -28,10 +29,11 @@ Steps t p (on_items call reply ∷ rest) u q = ItemStep p.items 0 call reply × 
 pub record AnswerBy (s : NodeState) (from : Addr) (bytes : List ℕ) (at : ℕ) (reply : Message) (next : NodeState) : Type 0 where
   pub tx : List ℕ
   pub read_only : Bool
+  pub proof : Option Proof
   pub ask : Ask
-  pub query : IsQuery from bytes tx read_only ask
+  pub query : IsQuery from bytes tx read_only proof ask
   pub did : List Did
-  pub calls : map call_of did ≡ calls_of (setting_of s) from at read_only ask
+  pub calls : map call_of did ≡ calls_of (setting_of s) from at read_only proof ask
   pub memory : All HadMemory did
   pub steps : Steps s.table (stores_of s) did next.table (stores_of next)
   pub reply_is : reply ≡ answer_with (setting_of s) from at tx ask (map reply_of did)

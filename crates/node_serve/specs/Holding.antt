@@ -1,5 +1,5 @@
 -- The calls that a query makes of whoever holds a node's table, its peers and its items, one after another.
-use Rattle.std.specs.Prelude.{◌≡◌, ℕ, List, [], ◌∷◌}
+use Rattle.std.specs.Prelude.{◌≡◌, List, [], ◌∷◌}
 use Rattle.node_serve.specs.Calls.{Did}
 
 -- the calls were made, in order, where this is what each makes of the holder

@@ -7,6 +7,7 @@ pub mod Gathered
 pub mod Holding
 pub mod Lasting
 pub mod NodeState
+pub mod Passing
 pub mod Queries
 pub mod Receives
 pub mod Replies
@@ -14,3 +15,4 @@ pub mod Responded
 pub mod Responses
 pub mod Sealing
 pub mod Sizes
+pub mod Vouching

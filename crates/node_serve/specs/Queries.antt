@@ -1,6 +1,8 @@
--- Which datagrams a node answers: queries (BEP 5). The limits are this project's own.
-use Rattle.std.specs.Prelude.{◌≡◌, ◌≢◌, ℕ, ◌<◌, ◌≤◌, Bool, List, length}
+-- Which datagrams a node answers: queries (BEP 5). The limits are this project's own, and so is that a query may bring its
+-- sender's proof.
+use Rattle.std.specs.Prelude.{◌≡◌, ◌≢◌, ℕ, ◌<◌, ◌≤◌, Bool, List, length, Option}
 use Rattle.kad_base.specs.declared.types.Addr.{Addr}
+use Rattle.kad_base.specs.declared.types.Proof.{Proof}
 use Rattle.kad_base.specs.Limits.{max_datagram, max_answered_tx}
 use Rattle.kad_krpc.specs.declared.message.Ask.{Ask}
 use Rattle.kad_krpc.specs.declared.message.KrpcFault.{KrpcFault}
@@ -11,16 +13,16 @@ use Rattle.kad_krpc.specs.Reading.{Says, Refuses}
 
 -- a datagram of at most 4,096 bytes from an IPv4 address with a port that says a query, whose transaction id has at most
 -- 32 bytes
-pub record IsQuery (from : Addr) (bytes tx : List ℕ) (read_only : Bool) (ask : Ask) : Type 0 where
+pub record IsQuery (from : Addr) (bytes tx : List ℕ) (read_only : Bool) (proof : Option Proof) (ask : Ask) : Type 0 where
   pub short : length bytes ≤ max_datagram
   pub port : from.port ≢ 0
   pub family : IsV4 from.ip
-  pub says : Says bytes (Query tx read_only ask)
+  pub says : Says bytes (Query tx read_only proof ask)
   pub short_tx : length tx ≤ max_answered_tx
 
 -- a message that nobody is owed a reply to: an answer, an error message, or a query whose transaction id is longer
 abbrev pub IsNotAnswered : Message → Type 0
-IsNotAnswered (Query tx read_only ask) = max_answered_tx < length tx
+IsNotAnswered (Query tx read_only proof ask) = max_answered_tx < length tx
 IsNotAnswered (Answer tx answer) = Unit {0}
 IsNotAnswered (Fault tx code text) = Unit {0}
 

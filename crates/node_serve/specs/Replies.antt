@@ -8,6 +8,7 @@ use Rattle.kad_base.specs.declared.types.Ip.{Ip}
 use Rattle.kad_base.specs.declared.types.Ip.TheVariants.{V4, V6}
 use Rattle.kad_base.specs.declared.types.Addr.{Addr}
 use Rattle.kad_base.specs.declared.types.Contact.{Contact}
+use Rattle.kad_base.specs.declared.types.Proof.{Proof}
 use Rattle.kad_base.specs.declared.types.Report.{Report}
 use Rattle.kad_base.specs.declared.types.Policy.{Policy}
 use Rattle.kad_base.specs.declared.types.Policy.TheVariants.{Plain, Puzzled}
@@ -22,6 +23,7 @@ use Rattle.kad_krpc.specs.declared.message.Message.{Message}
 use Rattle.kad_krpc.specs.declared.message.Message.TheVariants as message
 use Rattle.kad_krpc.specs.Records.{ip_bytes}
 use Rattle.contact_table.specs.TableStep.{contacts_of}
+use Rattle.contact_table.specs.Vouched.{reports_of}
 use Rattle.peer_store.specs.Peers.{PeersState, Pair, IsCrowded, HasNoPlace, with_add, purged, listed_from}
 use Rattle.node_tokens.specs.Tokens.{TokensState, IsAccepted, epoch_at, token_of, point_at}
 use Rattle.item_store.specs.Items.{ItemsState, max_length, key_of, handed_out, with_item, IsCrowded as IsHostCrowded, HasNoPlace as HasNoRoom, purged as purged_items}
@@ -40,21 +42,42 @@ of_ipv4 contacts = filter (λ c. is_v4 c.addr.ip) contacts
 abbrev pub nodes_for : NodeState → Id → List Contact
 nodes_for s target = of_ipv4 (k_closest target s.k (contacts_of s.table))
 
+-- the reports of contacts that it has a place for
+abbrev pub reports_of_ipv4 : List Report → List Report
+reports_of_ipv4 reports = filter (λ r. is_v4 r.contact.addr.ip) reports
+
+-- the same contacts, each with the proof that the table has of it, if it has one
+abbrev pub reports_for : NodeState → Id → List Report
+reports_for s target = reports_of_ipv4 (reports_of s.table.proofs (k_closest target s.k (contacts_of s.table)))
+
 -- the kept proof of a contact: that of the first kept report with this contact
 abbrev pub kept_proof : List Report → Contact → Option Report
 kept_proof proofs c = find (λ r. same c r.contact) proofs
 
--- those that have a kept proof, in order, with it
-abbrev pub proved : List Report → List Contact → List Report
-proved proofs nodes = flat_map (λ c. option_to_list (kept_proof proofs c)) nodes
+-- the report, where it has this proof
+abbrev pub where_proved : Report → Option Proof → Option Report
+where_proved r None = None
+where_proved r (Some proof) = Some r
+
+-- the kept report, where there is one; else the table's, where that has a proof
+abbrev pub kept_or : Option Report → Report → Option Report
+kept_or (Some kept) r = Some kept
+kept_or None r = where_proved r r.proof
+
+abbrev pub shown_proof : List Report → Report → Option Report
+shown_proof proofs r = kept_or (kept_proof proofs r.contact) r
+
+-- those that have a proof, kept or the table's, in order, with it
+abbrev pub proved : List Report → List Report → List Report
+proved proofs reports = flat_map (λ r. option_to_list (shown_proof proofs r)) reports
 
 -- where the node asks for puzzles it names proofs too
-abbrev pub snodes_by : Policy → List Report → List Contact → Option (List Report)
-snodes_by Plain proofs nodes = None
-snodes_by (Puzzled c1 c2) proofs nodes = Some (proved proofs nodes)
+abbrev pub snodes_by : Policy → List Report → List Report → Option (List Report)
+snodes_by Plain proofs reports = None
+snodes_by (Puzzled c1 c2) proofs reports = Some (proved proofs reports)
 
 abbrev pub snodes_for : NodeState → Id → Option (List Report)
-snodes_for s target = snodes_by s.policy s.proofs (nodes_for s target)
+snodes_for s target = snodes_by s.policy s.proofs (reports_for s target)
 
 -- the token of the address that asks
 abbrev pub token_for : NodeState → Addr → ℕ → List ℕ

@@ -31,7 +31,7 @@ pub record HasFew (a : Answer) : Type 0 where
 
 -- a reply with few parts
 abbrev pub IsSmall : Message → Type 0
-IsSmall (message.Query tx read_only ask) = ⊥
+IsSmall (message.Query tx read_only proof ask) = ⊥
 IsSmall (message.Answer tx answer) = (length tx ≤ 32) × HasFew answer
 IsSmall (message.Fault tx code text) = (length tx ≤ 32) × ((length (integer_text code) ≤ 7) × (length text ≤ 25))
 

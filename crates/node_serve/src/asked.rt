@@ -1,14 +1,13 @@
 //! Which datagrams are queries that are answered.
-ghost use Rattle.std.specs.Prelude.{◌≡◌, ℕ, Bool, List, MatchOption, IsNone};
-ghost use Rattle.kad_krpc.specs.declared.message.Ask.{Ask};
+ghost use Rattle.std.specs.Prelude.{◌≡◌, MatchOption, IsNone};
 ghost use Rattle.kad_krpc.specs.Records.{ip_bytes};
-ghost use Rattle.kad_krpc.specs.Views.{ask_seen, message_seen};
-ghost use Rattle.node_serve.specs.AnswerOf.{asker_of, contact_at, notify_by};
+ghost use Rattle.kad_krpc.specs.Views.{message_seen};
 ghost use Rattle.node_serve.specs.Queries.{IsNotAnswered, IsSilent};
 ghost use Rattle.node_serve.specs.Asked.{IsAsked, IsOf};
 
 use kad_base::limits::{MAX_ANSWERED_TX, MAX_DATAGRAM};
-use kad_base::{Addr, Contact, Id, Ip, Policy};
+use kad_base::{Addr, Ip};
+use kad_bencode::Piece;
 use kad_krpc::{AskView, View, decode_view};
 
 /// A query that is answered, in its datagram.
@@ -19,6 +18,8 @@ pub struct Asked<'a> {
     pub ip: [u8; 4],
     pub tx: &'a [u8],
     pub read_only: bool,
+    /// Its arguments as they stand, in which whoever asks may bring a proof. Nothing has been read from them but what it asks.
+    pub arguments: Option<Piece<'a>>,
     pub ask: AskView<'a>,
 }
 
@@ -29,7 +30,12 @@ fn query_in<'a>(from: Addr, ip: [u8; 4], view: View<'a>) -> Option<Asked<'a>>
         (IsOf from (message_seen view.entry)) }
 {
     match view {
-        View::Query { tx, read_only, ask } => {
+        View::Query {
+            tx,
+            read_only,
+            arguments,
+            ask,
+        } => {
             if tx.len() > MAX_ANSWERED_TX {
                 return None;
             }
@@ -38,6 +44,7 @@ fn query_in<'a>(from: Addr, ip: [u8; 4], view: View<'a>) -> Option<Asked<'a>>
                 ip,
                 tx,
                 read_only,
+                arguments,
                 ask,
             })
         }
@@ -61,41 +68,5 @@ pub fn read_query<'a>(from: Addr, bytes: &'a [u8]) -> Option<Asked<'a>>
             Ok(view) => query_in(from, ip, view),
             Err(_) => None,
         },
-    }
-}
-
-/// Who asks, by one of the four methods of BEP 5. Whoever gets or puts items is not told.
-fn asker(ask: &AskView) -> Option<Id>
-    ensures { result ≡ asker_of (ask_seen ask.now) }
-{
-    match ask {
-        AskView::Ping { id } => Some(*id),
-        AskView::FindNode { id, .. } => Some(*id),
-        AskView::GetPeers { id, .. } => Some(*id),
-        AskView::AnnouncePeer { id, .. } => Some(*id),
-        AskView::Get { .. } => None,
-        AskView::Put { .. } => None,
-        AskView::Other { .. } => None,
-    }
-}
-
-/// The contact that the table is told of after a query of BEP 5 (Kademlia, 2002, section 2.2): the asker, unless it is
-/// read-only (BEP 43), or the policy asks for puzzles, which a query can't show to be solved. `get` and `put` (BEP 44) and
-/// queries of other names tell it nothing.
-pub(crate) fn notify_for(policy: Policy, asked: &Asked) -> Option<Contact>
-    ensures { result ≡ notify_by policy asked.now.read_only (ask_seen asked.now.ask) asked.now.from }
-{
-    match policy {
-        Policy::Puzzled { .. } => None,
-        Policy::Plain => {
-            if asked.read_only {
-                return None;
-            }
-            let id = asker(&asked.ask)?;
-            Some(Contact {
-                id,
-                addr: asked.from,
-            })
-        }
     }
 }

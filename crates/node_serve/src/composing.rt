@@ -5,13 +5,13 @@ ghost use Rattle.node_serve.specs.Calls.{found_from, item_from, peers_from, toke
 ghost use Rattle.node_serve.specs.Gains.{MayFail, reply_gained};
 
 use crate::asked::Asked;
-use crate::nodes::{snodes_under, with_ipv4};
+use crate::nodes::{Near, Parts, parts_of};
 use crate::reply::{
     name, refuse_big, refuse_full, refuse_method, refuse_mutable, refuse_token, some_peers,
 };
 use crate::setting::ServeSetting;
 use aged_map::Stored;
-use kad_base::{Addrs, Bytes, Contacts, List, NoMemory};
+use kad_base::{Addrs, Bytes, List, NoMemory};
 use kad_krpc::{Answer, Message};
 use std::alloc::Global;
 
@@ -21,9 +21,9 @@ pub enum Gained {
     /// The node's identifier alone is wanted.
     Name,
     /// The closest contacts.
-    Nodes { nodes: Contacts },
+    Nodes { nodes: Near },
     /// The peers of the key, and the closest contacts.
-    Peers { list: Addrs, nodes: Contacts },
+    Peers { list: Addrs, nodes: Near },
     /// The peer is held.
     Placed { stored: Stored },
     /// The peer has no place: as many of its host are held as may be.
@@ -31,7 +31,7 @@ pub enum Gained {
     /// The peer has no place.
     Full,
     /// The item of the key, where one is handed out, and the closest contacts.
-    Item { v: Option<Bytes>, nodes: Contacts },
+    Item { v: Option<Bytes>, nodes: Near },
     /// The item is held.
     Kept { stored: Stored },
     /// The item has no place: as many that its host put are held as may be.
@@ -53,13 +53,11 @@ fn found(
     alloc: Global,
     setting: &ServeSetting,
     tx: Bytes,
-    closest: Contacts,
+    closest: Near,
 ) -> Result<Message, NoMemory>
     ensures { IfOk result (λ m. m ≡ found_from tx setting.now closest) }
 {
-    let nodes = with_ipv4(closest);
-    let proofs = setting.proofs.as_slice();
-    let snodes = snodes_under(alloc, setting.policy, proofs, nodes.as_slice())?;
+    let Parts { nodes, snodes } = parts_of(alloc, setting.proofs.as_slice(), closest)?;
     let answer = Answer {
         id: setting.own,
         nodes: Some(nodes),
@@ -80,7 +78,7 @@ fn tokened(
     setting: &ServeSetting,
     asked: &Asked,
     at: u64,
-    closest: Contacts,
+    closest: Near,
     v: Option<Bytes>,
     values: Option<Addrs>,
 ) -> Result<Answer, NoMemory>
@@ -88,9 +86,7 @@ fn tokened(
     ensures { IfOk result (λ a. a ≡
         tokened_from setting.now asked.now.from at closest v values) }
 {
-    let nodes = with_ipv4(closest);
-    let proofs = setting.proofs.as_slice();
-    let snodes = snodes_under(alloc, setting.policy, proofs, nodes.as_slice())?;
+    let Parts { nodes, snodes } = parts_of(alloc, setting.proofs.as_slice(), closest)?;
     let token = List::from_slice(alloc, &setting.tokens.make(asked.ip, at))?;
     Ok(Answer {
         id: setting.own,
@@ -112,7 +108,7 @@ fn peers_found(
     at: u64,
     tx: Bytes,
     list: Addrs,
-    closest: Contacts,
+    closest: Near,
 ) -> Result<Message, NoMemory>
     requires { ip_bytes asked.now.from.ip ≡ asked.now.ip }
     ensures { IfOk result (λ m. m ≡ peers_from tx setting.now asked.now.from at list closest) }
@@ -129,7 +125,7 @@ fn item_found(
     at: u64,
     tx: Bytes,
     v: Option<Bytes>,
-    closest: Contacts,
+    closest: Near,
 ) -> Result<Message, NoMemory>
     requires { ip_bytes asked.now.from.ip ≡ asked.now.ip }
     ensures { IfOk result (λ m. m ≡ item_from tx setting.now asked.now.from at v closest) }

@@ -1,5 +1,6 @@
 //! The calls of a query, and what they gave.
 ghost use Rattle.std.specs.Prelude.{◌≡◌, ◌≤◌, ℕ, length, Some, IfOk, IfSome, OnOk, OnErr};
+ghost use Rattle.contact_table.specs.TableStep.{TableMay};
 ghost use Rattle.contact_table.specs.declared.calls.TableCall.{TableCall};
 ghost use Rattle.contact_table.specs.declared.calls.TableReply.{TableReply};
 ghost use Rattle.peer_store.specs.declared.calls.PeerCall.{PeerCall};
@@ -7,21 +8,24 @@ ghost use Rattle.peer_store.specs.declared.calls.PeerReply.{PeerReply};
 ghost use Rattle.item_store.specs.Items.{IsItem};
 ghost use Rattle.item_store.specs.declared.calls.ItemCall.{ItemCall};
 ghost use Rattle.item_store.specs.declared.calls.ItemReply.{ItemReply};
-ghost use Rattle.node_serve.specs.Calls.{on_table, on_peers, on_items};
-ghost use Rattle.node_serve.specs.Gains.{IsFew, KeepsItem, item_reply};
+ghost use Rattle.node_serve.specs.Calls.{on_table, on_peers, on_items, near_call};
+ghost use Rattle.node_serve.specs.Gains.{IsFew, KeepsItem, count_near, item_reply, near_reply};
 ghost use Rattle.node_serve.specs.declared.planning.Wants.{Wants};
-ghost use Rattle.node_serve.specs.Responses.{Fails, Gathers, Tells, TellsNot};
+ghost use Rattle.node_serve.specs.declared.setting.ServeSetting.{ServeSetting};
+ghost use Rattle.node_serve.specs.Responses.{Fails, Gathers, MayTell, Tells, TellsNot};
 
 use crate::composing::Gained;
 use crate::holder::Hold;
+use crate::nodes::Near;
 use crate::planning::Wants;
+use crate::setting::ServeSetting;
 use contact_table::{TableCall, TableReply};
 use item_store::{ItemCall, ItemReply};
-use kad_base::{Addr, Addrs, Bytes, Contact, Contacts, Id, NoMemory};
+use kad_base::{Addr, Addrs, Bytes, Contacts, Id, NoMemory, Policy, Reports};
 use peer_store::{PeerCall, PeerReply};
 
 /// The closest contacts.
-fn closest<H: Hold>(hold: &mut H, target: Id, n: u8) -> Result<Contacts, NoMemory>
+fn list_closest<H: Hold>(hold: &mut H, target: Id, n: u8) -> Result<Contacts, NoMemory>
     requires { H.ready hold.old }
     ensures ready { H.ready hold.new }
     ensures few { IfOk result (λ list. length list ≤ n) }
@@ -36,6 +40,49 @@ fn closest<H: Hold>(hold: &mut H, target: Id, n: u8) -> Result<Contacts, NoMemor
         TableReply::Seen { .. } => unreachable!(),
         TableReply::Gone { .. } => unreachable!(),
         TableReply::Crowded => unreachable!(),
+        TableReply::Reports { .. } => unreachable!(),
+    }
+}
+
+/// The closest contacts, each with the proof that the table has of it.
+fn list_vouchers<H: Hold>(hold: &mut H, target: Id, n: u8) -> Result<Reports, NoMemory>
+    requires { H.ready hold.old }
+    ensures ready { H.ready hold.new }
+    ensures few { IfOk result (λ reports. length reports ≤ n) }
+    ensures ok { IfOk result (λ reports. H.does hold.old
+        (on_table (TableCall.Vouchers target n) (TableReply.Reports reports)) hold.new) }
+    ensures err { OnErr result (H.does hold.old
+        (on_table (TableCall.Vouchers target n) TableReply.NoMemory) hold.new) }
+{
+    match hold.call_table(TableCall::Vouchers { target, n }) {
+        TableReply::Reports { reports } => Ok(reports),
+        TableReply::NoMemory => Err(NoMemory),
+        TableReply::Seen { .. } => unreachable!(),
+        TableReply::Gone { .. } => unreachable!(),
+        TableReply::Crowded => unreachable!(),
+        TableReply::List { .. } => unreachable!(),
+    }
+}
+
+/// The closest contacts, with the table's proofs of them where the policy asks for puzzles.
+fn closest<H: Hold>(hold: &mut H, policy: Policy, target: Id, n: u8) -> Result<Near, NoMemory>
+    requires { H.ready hold.old }
+    ensures ready { H.ready hold.new }
+    ensures few { IfOk result (λ near. count_near near ≤ n) }
+    ensures ok { IfOk result (λ near. H.does hold.old
+        (on_table (near_call policy target n) (near_reply near)) hold.new) }
+    ensures err { OnErr result (H.does hold.old
+        (on_table (near_call policy target n) TableReply.NoMemory) hold.new) }
+{
+    match policy {
+        Policy::Plain => match list_closest(hold, target, n) {
+            Ok(list) => Ok(Near::Listed { list }),
+            Err(NoMemory) => Err(NoMemory),
+        },
+        Policy::Puzzled { .. } => match list_vouchers(hold, target, n) {
+            Ok(reports) => Ok(Near::Reported { reports }),
+            Err(NoMemory) => Err(NoMemory),
+        },
     }
 }
 
@@ -83,10 +130,10 @@ fn place<H: Hold>(hold: &mut H, key: Id, peer: Addr, at: u64) -> Result<Gained, 
     requires { H.ready hold.old }
     ensures ready { H.ready hold.new }
     ensures few { IfOk result IsFew }
-    ensures ok { IfOk result (λ g. (k : ℕ) →
-        Gathers H.does k at (Wants.Place key peer) g hold.old hold.new) }
-    ensures err { OnErr result ((k : ℕ) →
-        Fails H.does k at (Wants.Place key peer) hold.old hold.new) }
+    ensures ok { IfOk result (λ g. (s : ServeSetting) →
+        Gathers H.does s at (Wants.Place key peer) g hold.old hold.new) }
+    ensures err { OnErr result ((s : ServeSetting) →
+        Fails H.does s at (Wants.Place key peer) hold.old hold.new) }
 {
     match hold.call_peers(PeerCall::Put { key, peer, at }) {
         PeerReply::Stored { stored } => Ok(Gained::Placed { stored }),
@@ -103,10 +150,10 @@ fn keep<H: Hold>(hold: &mut H, v: Bytes, from: Addr, at: u64) -> Result<Gained, 
     requires item { IsItem v }
     ensures ready { H.ready hold.new }
     ensures few { IfOk result IsFew }
-    ensures ok { IfOk result (λ g. (k : ℕ) →
-        Gathers H.does k at (Wants.Keep v from) g hold.old hold.new) }
-    ensures err { OnErr result ((k : ℕ) →
-        Fails H.does k at (Wants.Keep v from) hold.old hold.new) }
+    ensures ok { IfOk result (λ g. (s : ServeSetting) →
+        Gathers H.does s at (Wants.Keep v from) g hold.old hold.new) }
+    ensures err { OnErr result ((s : ServeSetting) →
+        Fails H.does s at (Wants.Keep v from) hold.old hold.new) }
 {
     match hold.call_items(ItemCall::Put { v, from, at }) {
         ItemReply::Stored { stored } => Ok(Gained::Kept { stored }),
@@ -118,28 +165,28 @@ fn keep<H: Hold>(hold: &mut H, v: Bytes, from: Addr, at: u64) -> Result<Gained, 
     }
 }
 
-/// Makes the calls for what is wanted, by a node whose replies name `k` contacts.
+/// Makes the calls for what is wanted, by a node of this setting.
 pub(crate) fn gather<H: Hold>(
     hold: &mut H,
-    k: u8,
+    setting: &ServeSetting,
     at: u64,
     wants: Wants,
 ) -> Result<Gained, NoMemory>
     requires ready { H.ready hold.old }
-    requires few { k ≤ 20 }
+    requires few { setting.now.k ≤ 20 }
     requires item { KeepsItem wants }
     ensures ready { H.ready hold.new }
     ensures few { IfOk result IsFew }
-    ensures ok { IfOk result (λ g. Gathers H.does k at wants g hold.old hold.new) }
-    ensures err { OnErr result (Fails H.does k at wants hold.old hold.new) }
+    ensures ok { IfOk result (λ g. Gathers H.does setting.now at wants g hold.old hold.new) }
+    ensures err { OnErr result (Fails H.does setting.now at wants hold.old hold.new) }
 {
     match wants {
-        Wants::Nodes { target } => match closest(hold, target, k) {
+        Wants::Nodes { target } => match closest(hold, setting.policy, target, setting.k) {
             Ok(nodes) => Ok(Gained::Nodes { nodes }),
             Err(NoMemory) => Err(NoMemory),
         },
         Wants::Peers { key, first } => match list(hold, key, at, first) {
-            Ok(list) => match closest(hold, key, k) {
+            Ok(list) => match closest(hold, setting.policy, key, setting.k) {
                 Ok(nodes) => Ok(Gained::Peers { list, nodes }),
                 Err(NoMemory) => Err(NoMemory),
             },
@@ -147,7 +194,7 @@ pub(crate) fn gather<H: Hold>(
         },
         Wants::Place { key, peer } => place(hold, key, peer, at),
         Wants::Item { key } => match get(hold, key, at) {
-            Ok(v) => match closest(hold, key, k) {
+            Ok(v) => match closest(hold, setting.policy, key, setting.k) {
                 Ok(nodes) => Ok(Gained::Item { v, nodes }),
                 Err(NoMemory) => Err(NoMemory),
             },
@@ -162,28 +209,30 @@ pub(crate) fn gather<H: Hold>(
     }
 }
 
-/// Tells the table that the contact asked.
-fn notify_seen<H: Hold>(hold: &mut H, contact: Contact) -> Result<(), NoMemory>
-    requires { H.ready hold.old }
+/// Tells the table by this call, which any role may make.
+fn notify_by_call<H: Hold>(hold: &mut H, call: TableCall) -> Result<(), NoMemory>
+    requires ready { H.ready hold.old }
+    requires may { (role : ℕ) → TableMay role call }
     ensures ready { H.ready hold.new }
-    ensures ok { OnOk result (Tells H.does (Some contact) hold.old hold.new) }
-    ensures err { OnErr result (TellsNot H.does (Some contact) hold.old hold.new) }
+    ensures ok { OnOk result (Tells H.does (Some call) hold.old hold.new) }
+    ensures err { OnErr result (TellsNot H.does (Some call) hold.old hold.new) }
 {
-    match hold.call_table(TableCall::Seen { contact }) {
+    match hold.call_table(call) {
         TableReply::NoMemory => Err(NoMemory),
         _ => Ok(()),
     }
 }
 
 /// Tells the table who asked, where it is told.
-pub(crate) fn notify<H: Hold>(hold: &mut H, told: Option<Contact>) -> Result<(), NoMemory>
-    requires { H.ready hold.old }
+pub(crate) fn notify<H: Hold>(hold: &mut H, told: Option<TableCall>) -> Result<(), NoMemory>
+    requires ready { H.ready hold.old }
+    requires may { MayTell told }
     ensures ready { H.ready hold.new }
     ensures ok { OnOk result (Tells H.does told hold.old hold.new) }
     ensures err { OnErr result (TellsNot H.does told hold.old hold.new) }
 {
     match told {
-        Some(contact) => notify_seen(hold, contact),
+        Some(call) => notify_by_call(hold, call),
         None => Ok(()),
     }
 }

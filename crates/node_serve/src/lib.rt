@@ -22,13 +22,15 @@ mod sealing;
 mod service;
 mod setting;
 mod size_bound;
+mod telling;
 
 pub use asked::{Asked, read_query};
 pub use composing::Gained;
 pub use holder::Hold;
 pub use lasting::{Lasting, end_of, is_over, waits_to};
-pub use laws::{one_answer, same_answer};
+pub use laws::{one_answer, same_answer, what_is_kept_passes, who_is_taken};
 pub use node::{Answered, Node};
+pub use nodes::Near;
 pub use planning::Wants;
 pub use replying::respond;
 pub use service::{ServeCounts, ServeFault, serve_loop};

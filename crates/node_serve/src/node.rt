@@ -50,19 +50,19 @@ pub struct Node {
 }
 
 impl Model for Node {
-    ghost use Rattle.node_serve.specs.NodeState.{NodeState, IsNode};
-    ghost use Rattle.node_serve.specs.Gathered.{node_of};
+    ghost use Rattle.node_serve.specs.NodeState.{NodeState};
+    ghost use Rattle.node_serve.specs.Gathered.{IsOwn, node_of};
 
     ghost Value = { NodeState };
 
     ghost view = { λ n. node_of n.setting n.held };
 
-    ghost invariant = { λ n. IsNode (node_of n.setting n.held) };
+    ghost invariant = { λ n. IsOwn n.setting n.held };
 }
 
 impl Node {
     /// A node with this routing table and its limit, whose replies name `k` contacts, 1 to 20. Under a policy that asks for
-    /// puzzles they name those of `proofs` too. The secrets of its tokens are drawn from `random`, and their epochs count from the
+    /// puzzles they name those of `proofs` too, and the proofs that the table has of others. The secrets of its tokens are drawn from `random`, and their epochs count from the
     /// moment `began`, in milliseconds. A node that is `sealed` tags each of its replies. Takes no memory.
     pub fn new(
         alloc: Global,
@@ -89,6 +89,7 @@ impl Node {
             proofs,
             tokens: Tokens::limited(random, began, limit),
             sealed,
+            proof: None,
         };
         Node {
             alloc,
@@ -147,8 +148,8 @@ impl Node {
     /// Answers a datagram that came from this address at this moment, in milliseconds. The reply is written in front of
     /// `out`, and made from what the node held before: the nodes that a query asks for, peers or an item with a token for
     /// its source, or a refusal. An announced peer is held where its token is that of its source, and so is an immutable
-    /// item of at most 1,000 bytes (BEP 44), for two hours. After a query of BEP 5, under `Plain`, the table is told who
-    /// asked, unless the query is read-only (BEP 43). A sealed node puts the seal's tag into each reply, an error message
+    /// item of at most 1,000 bytes (BEP 44), for two hours. After a query of BEP 5 the table is told who asked, unless the
+    /// query is read-only (BEP 43), or the policy asks for puzzles and it brings no proof that solves them. A sealed node puts the seal's tag into each reply, an error message
     /// too. Reading, writing and tagging take no memory; the parts of the reply do, and an item that is put.
     pub fn answer<G: Seal>(
         &mut self,

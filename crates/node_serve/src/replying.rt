@@ -7,7 +7,7 @@ ghost use Rattle.node_serve.specs.Asked.{IsSaid};
 ghost use Rattle.node_serve.specs.Calls.{IsSetting};
 ghost use Rattle.node_serve.specs.Responses.{RepliesTo, StopsAt};
 
-use crate::asked::{Asked, notify_for};
+use crate::asked::Asked;
 use crate::composing::compose;
 use crate::gather::{gather, notify};
 use crate::holder::Hold;
@@ -15,6 +15,7 @@ use crate::planning::plan;
 use crate::sealing::seal_reply;
 use crate::setting::ServeSetting;
 use crate::size_bound::write;
+use crate::telling::notify_for;
 use kad_base::limits::MAX_DATAGRAM;
 use kad_base::{List, NoMemory};
 use seal_tags::Seal;
@@ -52,7 +53,7 @@ pub fn respond<H: Hold, G: Seal>(
         Ok(wants) => wants,
         Err(NoMemory) => return Err(NoMemory),
     };
-    let gained = match gather(hold, setting.k, at, wants) {
+    let gained = match gather(hold, setting, at, wants) {
         Ok(gained) => gained,
         Err(NoMemory) => return Err(NoMemory),
     };

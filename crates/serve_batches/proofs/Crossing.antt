@@ -11,6 +11,7 @@ use Rattle.node_serve.below.node_tokens.proofs.tokens.Tokens.TheSendSync.{the_se
 use Rattle.kad_base.proofs.types.Contact.TheSendSync.{the_send as contact_send}
 use Rattle.kad_base.proofs.types.Id.TheSendSync.{the_send as id_send}
 use Rattle.kad_base.proofs.types.Policy.TheSendSync.{the_send as policy_send}
+use Rattle.kad_base.proofs.types.Proof.TheSendSync.{the_send as proof_send}
 use Rattle.kad_base.proofs.types.Report.TheSendSync.{the_send as report_send}
 use Rattle.node_serve.specs.contracts.setting.ServeSetting.{the_row as setting_row, the_type as setting_type}
 use Rattle.work_desk.proofs.Crossing.{helper_send}
@@ -19,6 +20,7 @@ use Rattle.bucket_tree.proofs.node.Node.TheLaws.TheKnot.{send-Node as node_send}
 use Rattle.bucket_tree.specs.contracts.buckets.Buckets.{the_row as buckets_row}
 use Rattle.sibling_list.proofs.Siblings.TheSendSync.{the_send as siblings_send}
 use Rattle.contact_table.proofs.seats.Seat.TheSendSync.{the_send as seat_send}
+use Rattle.contact_table.proofs.vouchers.Vouchers.TheSendSync.{the_send as vouchers_send}
 use Rattle.contact_table.specs.contracts.table.Table.{the_row as table_row}
 use Rattle.peer_store.proofs.peers.Peers.TheSendSync.{the_send as peers_send}
 use Rattle.item_store.proofs.items.Items.TheSendSync.{the_send as items_send}
@@ -34,7 +36,7 @@ pub buckets_send : IsSend buckets_row
 buckets_send = search (sendable, crosses, row_send, node_send) depth 14
 
 pub table_send : IsSend table_row
-table_send = search (sendable, BTreeMap-send, siblings_send, buckets_send, seat_send, contact_send) depth 14
+table_send = search (sendable, BTreeMap-send, siblings_send, buckets_send, seat_send, contact_send, vouchers_send) depth 14
 
 pub worker_send : IsSend worker_row
 worker_send = search (sendable, peers_send, items_send, pass_send, table_send) depth 20
@@ -43,7 +45,7 @@ pub shift_send : IsSend (row shift_type)
 shift_send = search (sendable, crosses, slot_send, worker_send) depth 20
 
 setting_send : IsSend setting_row
-setting_send = declared_send setting_type (id_send, (search sendable depth 8, (policy_send, (search (sendable, list_send, report_send) depth 8, (search (sendable, tokens_send) depth 8, (search sendable depth 8, tt))))))
+setting_send = declared_send setting_type (id_send, (search sendable depth 8, (policy_send, (search (sendable, list_send, report_send) depth 8, (search (sendable, tokens_send) depth 8, (search sendable depth 8, (search (sendable, crosses, proof_send) depth 10, tt)))))))
 
 module _ (B : RattleType) (g : Ghosts B.Denot) where
   own_send : IsSend (own_row B g)

@@ -1,6 +1,7 @@
 -- What a worker does for a query, said of the datagram.
-use Rattle.std.proofs.Common.{◌≡◌, ◌≤◌, ℕ, List, [], map, take, refl, ap, ◌∙◌}
+use Rattle.std.proofs.Common.{◌≤◌, ℕ, List, [], map, take, refl, ap, ◌∙◌}
 use Rattle.kad_base.specs.declared.types.Addr.{Addr}
+use Rattle.kad_krpc.specs.Asking.{proof_of}
 use Rattle.kad_krpc.specs.Views.{ask_seen}
 use Rattle.node_serve.specs.Asked.{IsAsked}
 use Rattle.node_serve.specs.Calls.{reply_of, calls_of, answer_with}
@@ -11,7 +12,7 @@ use Rattle.node_serve.specs.declared.asked.Asked.{Asked}
 use Rattle.node_serve.specs.declared.node.Answered.TheVariants.{Reply as Reply_owed, Silent, NoMemory}
 use Rattle.node_serve.specs.declared.setting.ServeSetting.{ServeSetting}
 use Rattle.node_serve.proofs.Responding.{ends_first}
-use Rattle.serve_crew.specs.Hands.{Hands, SameHands, does}
+use Rattle.serve_crew.specs.Hands.{Hands, does}
 use Rattle.serve_crew.specs.Serving.{Answers}
 use Rattle.serve_crew.proofs.Growing.{grew_none, runs_grew}
 
@@ -25,9 +26,10 @@ module _ (tag_of : Tags) (s : ServeSetting) (from : Addr) (bytes : List ℕ) (at
       record {
         tx = asked.tx.now;
         read_only = asked.read_only;
+        proof = proof_of asked.arguments;
         ask = ask_seen asked.ask;
         query = is.query;
-        calls = r.calls ∙ ap (λ f. calls_of s f at asked.read_only (ask_seen asked.ask)) is.from_is;
+        calls = r.calls ∙ ap (λ f. calls_of s f at asked.read_only (proof_of asked.arguments) (ask_seen asked.ask)) is.from_is;
         memory = r.memory;
         written = r.written ∙ ap (λ f. sent_form tag_of s.sealed s.own (answer_with s f at asked.tx.now (ask_seen asked.ask) (map reply_of r.did))) is.from_is;
       },
@@ -43,10 +45,11 @@ module _ (tag_of : Tags) (s : ServeSetting) (from : Addr) (bytes : List ℕ) (at
         answer = record {
           tx = asked.tx.now;
           read_only = asked.read_only;
+          proof = proof_of asked.arguments;
           ask = ask_seen asked.ask;
           query = is.query;
           left = first.0;
-          calls = first.1 ∙ ap (λ f. calls_of s f at asked.read_only (ask_seen asked.ask)) is.from_is;
+          calls = first.1 ∙ ap (λ f. calls_of s f at asked.read_only (proof_of asked.arguments) (ask_seen asked.ask)) is.from_is;
         };
       }
 

@@ -1,7 +1,8 @@
 -- What became of a datagram, in terms of the calls that were made for it.
-use Rattle.std.specs.Prelude.{◌≡◌, ℕ, ◌≤◌, Bool, List, [], ◌++◌, map, take}
+use Rattle.std.specs.Prelude.{◌≡◌, ℕ, ◌≤◌, Bool, List, [], ◌++◌, map, take, Option}
 use Rattle.std.specs.List.{All}
 use Rattle.kad_base.specs.declared.types.Addr.{Addr}
+use Rattle.kad_base.specs.declared.types.Proof.{Proof}
 use Rattle.kad_krpc.specs.declared.message.Ask.{Ask}
 use Rattle.node_serve.specs.Calls.{Call, Did, HadMemory, call_of, reply_of, calls_of, answer_with}
 use Rattle.node_serve.specs.Queries.{IsQuery, IsSilent}
@@ -15,9 +16,10 @@ use Rattle.node_serve.specs.declared.setting.ServeSetting.{ServeSetting}
 pub record IsReply (tag_of : Tags) (s : ServeSetting) (from : Addr) (bytes : List ℕ) (at : ℕ) (text : List ℕ) (did : List Did) : Type 0 where
   pub tx : List ℕ
   pub read_only : Bool
+  pub proof : Option Proof
   pub ask : Ask
-  pub query : IsQuery from bytes tx read_only ask
-  pub calls : map call_of did ≡ calls_of s from at read_only ask
+  pub query : IsQuery from bytes tx read_only proof ask
+  pub calls : map call_of did ≡ calls_of s from at read_only proof ask
   pub memory : All HadMemory did
   pub written : text ≡ sent_form tag_of s.sealed s.own (answer_with s from at tx ask (map reply_of did))
 
@@ -25,10 +27,11 @@ pub record IsReply (tag_of : Tags) (s : ServeSetting) (from : Addr) (bytes : Lis
 pub record IsStopped (s : ServeSetting) (from : Addr) (bytes : List ℕ) (at : ℕ) (did : List Did) : Type 0 where
   pub tx : List ℕ
   pub read_only : Bool
+  pub proof : Option Proof
   pub ask : Ask
-  pub query : IsQuery from bytes tx read_only ask
+  pub query : IsQuery from bytes tx read_only proof ask
   pub left : List Call
-  pub calls : map call_of did ++ left ≡ calls_of s from at read_only ask
+  pub calls : map call_of did ++ left ≡ calls_of s from at read_only proof ask
 
 -- by what was answered: the first bytes of what was written are the reply, or none is owed and no call was made
 abbrev pub IsAnswered : Tags → ServeSetting → Addr → List ℕ → ℕ → Answered → List ℕ → List Did → Type 0

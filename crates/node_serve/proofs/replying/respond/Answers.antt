@@ -2,6 +2,10 @@ use Rattle.std.proofs.Common.{ℕ, List, take, length, ◌≤◌, sym, subst, ap
 use Rattle.node_serve.specs.Gains.{reply_gained}
 use Rattle.node_serve.specs.Sizes.{IsSmall}
 use Rattle.node_serve.proofs.Few.{gained_small}
+use Rattle.kad_krpc.specs.Asking.{proof_of}
+use Rattle.kad_krpc.specs.Views.{ask_seen}
+use Rattle.node_serve.specs.Responses.{MayTell}
+use Rattle.node_serve.proofs.Solving.{notify_may}
 use Rattle.node_serve.proofs.Responding.{stop_first, stop_gathering, stop_composing, stop_telling, replies_to}
 use Rattle.node_serve.proofs.replying.respond.Goals as goal
 
@@ -10,6 +14,11 @@ write-length-requires g c =
     let tx = c.in-Ok.tx in
     let short : length tx ≤ 32 = subst (λ (t : List ℕ). length t ≤ 32) (sym c.in-Ok.ensures) c.requires.short in
     subst IsSmall (sym c.in-Ok-compose.ensures.message) (gained_small c.args.setting.now c.args.asked.now.from c.args.at tx short c.in-Ok-gather.gained c.in-Ok-gather.ensures.few)
+
+pub notify-requires-clause-may : goal.notify-requires-clause-may
+notify-requires-clause-may g c =
+    let asked = c.args.asked.now in
+    subst MayTell (sym c.notify_for-notified.ensures) (notify_may c.args.setting.now.policy asked.read_only (proof_of asked.arguments) (ask_seen asked.ask) asked.from)
 
 pub returns-in-Ok-notify-clause-ok : goal.returns-in-Ok-notify-clause-ok
 returns-in-Ok-notify-clause-ok g c =

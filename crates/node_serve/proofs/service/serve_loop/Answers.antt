@@ -1,8 +1,7 @@
-use Rattle.std.proofs.Common.{◌≡◌, ◌∙◌, ℕ, Option, Bool, true, false, Err, inl, inr, ap, sym, subst, rules, arith}
-use Rattle.kad_base.specs.Outside.{Grows}
+use Rattle.std.proofs.Common.{◌≡◌, ◌∙◌, ℕ, Option, true, false, Err, inl, inr, ap, sym, subst, rules, arith}
 use Rattle.node_serve.specs.Lasting.{end_of, is_over}
 use Rattle.node_serve.specs.declared.service.ServeFault.TheVariants.{LinkFault}
-use Rattle.node_serve.specs.Responded.{ReceivesAll, server_at, serve_state, Stops}
+use Rattle.node_serve.specs.Responded.{server_at, serve_state, Stops}
 use Rattle.node_serve.proofs.Receiving.{received_more, all_made, all_stop}
 use Rattle.kad_base.proofs.Failing.{fails_later}
 use Rattle.node_serve.proofs.service.serve_loop.Goals as goal

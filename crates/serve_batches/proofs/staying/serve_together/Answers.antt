@@ -41,6 +41,6 @@ captured_send δ k ν a κa b κb c κc d κd e κe f κf A B C D E F sa sb sc s
 
 pub join_mut-answer-requires-send-F : goal.join_mut-answer-requires-send-F
 join_mut-answer-requires-send-F g c κs within =
-    captured_send (Syntax.ty_struct [] (Syntax.tcons Syntax.ty_ptr (Syntax.tcons Syntax.ty_ptr (Syntax.tcons Syntax.ty_ptr (Syntax.tcons Syntax.ty_ptr (Syntax.tcons Syntax.ty_ptr (Syntax.tcons (Syntax.ty_struct [] (Syntax.tcons Syntax.ty_ptr (Syntax.tcons (Syntax.ty_int Syntax.w64) Syntax.tnil))) Syntax.tnil))))))) Exit.no (Lts.name-20 g.row.B g.row.R g.row.L g.row.G g.B.laws g.R.laws g.L.laws g.G.laws g.B.Serving g.B.Serving-dict g.R.Threads g.R.Threads-dict g.R.Wait g.R.Wait-dict g.L.Link g.L.Link-dict g.G.Seal g.G.Seal-dict) (Syntax.named 8) κs.1.1.1.1.1.1.1.1.0 (Syntax.named 9) κs.1.1.1.1.1.1.1.1.1.0 (Syntax.named 10) κs.1.1.1.1.1.1.1.1.1.1.0 (Syntax.named 11) κs.1.1.1.1.1.1.1.1.1.1.1.0 (Syntax.named 12) κs.1.1.1.1.1.1.1.1.1.1.1.1.0 (Syntax.named 13) κs.1.1.1.1.1.1.1.1.1.1.1.1.1.0
+    captured_send (Syntax.ty_struct [] (Syntax.tcons Syntax.ty_ptr (Syntax.tcons Syntax.ty_ptr (Syntax.tcons Syntax.ty_ptr (Syntax.tcons Syntax.ty_ptr (Syntax.tcons Syntax.ty_ptr (Syntax.tcons (Syntax.ty_struct [] (Syntax.tcons Syntax.ty_ptr (Syntax.tcons (Syntax.ty_int Syntax.w64) Syntax.tnil))) Syntax.tnil))))))) Exit.no (Lts.name-21 g.row.B g.row.R g.row.L g.row.G g.B.laws g.R.laws g.L.laws g.G.laws g.B.Serving g.B.Serving-dict g.R.Threads g.R.Threads-dict g.R.Wait g.R.Wait-dict g.L.Link g.L.Link-dict g.G.Seal g.G.Seal-dict) (Syntax.named 8) κs.1.1.1.1.1.1.1.1.0 (Syntax.named 9) κs.1.1.1.1.1.1.1.1.1.0 (Syntax.named 10) κs.1.1.1.1.1.1.1.1.1.1.0 (Syntax.named 11) κs.1.1.1.1.1.1.1.1.1.1.1.0 (Syntax.named 12) κs.1.1.1.1.1.1.1.1.1.1.1.1.0 (Syntax.named 13) κs.1.1.1.1.1.1.1.1.1.1.1.1.1.0
     (param 1 g.row.R) (Lts.of-16 g.row.B g.row.R g.row.L g.row.G g.B.laws g.R.laws g.L.laws g.G.laws g.B.Serving g.B.Serving-dict g.R.Threads g.R.Threads-dict g.R.Wait g.R.Wait-dict g.L.Link g.L.Link-dict g.G.Seal g.G.Seal-dict) (Lts.of-14 g.row.B g.row.R g.row.L g.row.G g.B.laws g.R.laws g.L.laws g.G.laws g.B.Serving g.B.Serving-dict g.R.Threads g.R.Threads-dict g.R.Wait g.R.Wait-dict g.L.Link g.L.Link-dict g.G.Seal g.G.Seal-dict) (Lts.of-12 g.row.B g.row.R g.row.L g.row.G g.B.laws g.R.laws g.L.laws g.G.laws g.B.Serving g.B.Serving-dict g.R.Threads g.R.Threads-dict g.R.Wait g.R.Wait-dict g.L.Link g.L.Link-dict g.G.Seal g.G.Seal-dict) (param 3 g.row.G) (Lts.of-6 g.row.B g.row.R g.row.L g.row.G g.B.laws g.R.laws g.L.laws g.G.laws g.B.Serving g.B.Serving-dict g.R.Threads g.R.Threads-dict g.R.Wait g.R.Wait-dict g.L.Link g.L.Link-dict g.G.Seal g.G.Seal-dict)
     c.type_bounds.sync-R (turn_sync Table.the_row TableCall.the_row TableReply.the_row TableSerial.ghosts table_send) (turn_sync Peers.the_row PeerCall.the_row PeerReply.the_row PeersSerial.ghosts peers_send) (turn_sync Items.the_row ItemCall.the_row ItemReply.the_row ItemsSerial.ghosts items_send) c.type_bounds.sync-G (place_send (param 0 g.row.B) g.B.Serving)

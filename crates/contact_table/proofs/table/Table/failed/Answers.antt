@@ -3,7 +3,7 @@ use Rattle.bucket_tree.specs.BucketSteps.{FailedStep}
 use Rattle.contact_table.specs.RowsAfter.{failed_rows}
 use Rattle.contact_table.specs.TableState.{TableState}
 use Rattle.contact_table.proofs.Determined.{failed-is, table-failed}
-use Rattle.contact_table.proofs.Kept.{seats-failed}
+use Rattle.contact_table.proofs.Kept.{seats-failed, stands-failed}
 use Rattle.contact_table.proofs.table.Table.failed.Goals as goal
 
 pub returns-clause-step : goal.returns-clause-step
@@ -17,7 +17,8 @@ returns-clause-step c =
 pub returns-clause-after : goal.returns-clause-after
 returns-clause-after c =
     let t = c.self.inside.buckets in
-    table-failed t c.self.inside.siblings c.failed-gone.new.self c.note_failed.new.siblings c.args.self.now c.self.inside.per_address c.args.contact.now c.failed-gone.result c.self.view_is c.self.invariant.0 c.sound.ensures.rows c.failed-gone.ensures.step c.failed-gone.ensures.own c.failed-gone.ensures.k c.failed-gone.ensures.b c.note_failed.ensures.list
+    table-failed t c.self.inside.siblings c.failed-gone.new.self c.note_failed.new.siblings c.args.self.now c.self.inside.per_address c.args.contact.now c.failed-gone.result c.self.inside.vouchers c.self.view_is c.self.invariant.0 c.sound.ensures.rows c.failed-gone.ensures.step c.failed-gone.ensures.own c.failed-gone.ensures.k c.failed-gone.ensures.b c.note_failed.ensures.list
+    (stands-failed t c.self.inside.siblings c.failed-gone.new.self.rows c.note_failed.new.siblings.list c.args.contact.now c.failed-gone.result c.self.inside.vouchers c.sound.ensures.rows c.failed-gone.ensures.step c.note_failed.ensures.list)
 
 pub invariant_of-self : goal.invariant_of-self
 invariant_of-self c = (

@@ -2,16 +2,19 @@ use Rattle.std.proofs.Common.{take, subst}
 use Rattle.node_serve.specs.Gathered.{AnswersAsked, EndsAsked}
 use Rattle.node_serve.specs.NodeState.{NodeState}
 use Rattle.kad_krpc.specs.declared.message.Message.TheVariants.{Query}
+use Rattle.kad_krpc.specs.Asking.{proof_of}
 use Rattle.kad_krpc.specs.Views.{ask_seen}
-use Rattle.kad_krpc.proofs.Writable.{writable}
+use Rattle.kad_krpc.proofs.Writable.{writable, writable_forms}
 use Rattle.node_serve.proofs.Ending.{ends_of}
 use Rattle.node_serve.proofs.Answering.{answers}
 use Rattle.node_serve.proofs.node.Node.answer.Goals as goal
 
 pub answer_query-requires-clause-said : goal.answer_query-requires-clause-said
-answer_query-requires-clause-said g c =
+answer_query-requires-clause-said g c immutable =
     let query = c.in-Some.ensures.query.query in
-    writable c.args.bytes.now (Query c.in-Some.asked.tx.now c.in-Some.asked.read_only (ask_seen c.in-Some.asked.ask)) query.says
+    let asked = c.in-Some.asked in
+    let message = Query asked.tx.now asked.read_only (proof_of asked.arguments) (ask_seen asked.ask) in
+    writable_forms message (writable c.args.bytes.now message query.says immutable)
 
 pub returns-in-Ok-clause-silent : goal.returns-in-Ok-clause-silent
 returns-in-Ok-clause-silent g c = (λ e. absurd cc, λ h. let n = c.in-Some.ensures.silent h in absurd cc)

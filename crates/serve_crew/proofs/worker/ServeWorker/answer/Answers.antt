@@ -1,14 +1,17 @@
 use Rattle.kad_krpc.specs.declared.message.Message.TheVariants.{Query}
+use Rattle.kad_krpc.specs.Asking.{proof_of}
 use Rattle.kad_krpc.specs.Views.{ask_seen}
-use Rattle.kad_krpc.proofs.Writable.{writable}
+use Rattle.kad_krpc.proofs.Writable.{writable, writable_forms}
 use Rattle.serve_crew.proofs.Growing.{runs_grew}
 use Rattle.serve_crew.proofs.Responding.{answers_reply, answers_stop, answers_none}
 use Rattle.serve_crew.proofs.worker.ServeWorker.answer.Goals as goal
 
 pub answer_query-requires-clause-said : goal.answer_query-requires-clause-said
-answer_query-requires-clause-said g c =
+answer_query-requires-clause-said g c immutable =
     let query = c.in-Some.ensures.query.query in
-    writable c.args.bytes.now (Query c.in-Some.asked.tx.now c.in-Some.asked.read_only (ask_seen c.in-Some.asked.ask)) query.says
+    let asked = c.in-Some.asked in
+    let message = Query asked.tx.now asked.read_only (proof_of asked.arguments) (ask_seen asked.ask) in
+    writable_forms message (writable c.args.bytes.now message query.says immutable)
 
 pub returns-in-None-clause-answers : goal.returns-in-None-clause-answers
 returns-in-None-clause-answers g c = answers_none (g.G.Seal.tag_of c.args.seal.now) c.args.setting.now c.args.from c.args.bytes.now c.args.at c.args.out.now c.args.self.now c.in-None.ensures.query
