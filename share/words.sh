@@ -29,6 +29,7 @@ kind_words() {
     case $1 in
         id) echo '40 hex digits' ;;
         bytes) echo '64 hex digits' ;;
+        proof) echo '64 hex digits, a comma and 40 hex digits' ;;
         hex) echo 'an even number of hex digits, at least two' ;;
         version) echo '4 or 6' ;;
         yesno) echo 'yes or no' ;;
@@ -79,6 +80,7 @@ is_value() {
         yesno) [ "$2" = yes ] || [ "$2" = no ] ;;
         id) is_hex "$2" 40 ;;
         bytes) is_hex "$2" 64 ;;
+        proof) is_hex "${2%%,*}" 64 && is_hex "${2#*,}" 40 ;;
         hex) is_hex "$2" $((${#2} / 2 * 2)) ;;
         address) is_address "$2" ;;
         *) is_number "$2" "${1%-*}" "${1#*-}" ;;

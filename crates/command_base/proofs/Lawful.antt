@@ -2,7 +2,7 @@
 use Rattle.std.proofs.Common.{◌≡◌, ℕ, List, IsTrue}
 use Rattle.kad_base.specs.declared.types.Event.{Event}
 use Rattle.command_base.specs.declared.status.Status.{Status}
-use Rattle.command_base.specs.declared.status.Status.TheVariants.{Usage, BadLine, LinkFault, SourceFault, Strays, NoSeeds, NoMemory, Unminted, TooLong, BadValue, Unsound}
+use Rattle.command_base.specs.declared.status.Status.TheVariants.{Usage, BadLine, LinkFault, SourceFault, Strays, NoSeeds, NoMemory, Unminted, TooLong, BadValue, Unsound, BadProof}
 use Rattle.command_base.specs.Endings.{number_of, EndsUnasked, MayEnd, OrNoMemory}
 use Rattle.command_base.specs.Input.{ReadsTooMuch, IsBadLine}
 use Rattle.command_base.specs.Promise.{Promise}
@@ -18,6 +18,7 @@ Sign p called source link Unminted = p.nothing called.random
 Sign p called source link TooLong = ReadsTooMuch source.before source.after
 Sign p called source link BadValue = p.refused
 Sign p called source link Unsound = p.unsound source
+Sign p called source link BadProof = p.unproved called.random
 Sign p called source link other = ⊥
 
 -- the outside tells enough that the sign of this status decides
@@ -42,6 +43,7 @@ Means p called source link Unminted = p.nothing called.random
 Means p called source link TooLong = IsTrue p.reads × ReadsTooMuch source.before source.after
 Means p called source link BadValue = p.refused
 Means p called source link Unsound = p.unsound source
+Means p called source link BadProof = p.unproved called.random
 
 -- nothing was told before the link was called
 abbrev pub IsUncalled : Shown Event → Status → Type 0
@@ -56,10 +58,11 @@ pub record Lawful (p : Promise) : Type 0 where
   pub needed : (called : Called) (source : Shown ℕ) (link : Shown Event) (s : Status) → p.needs called source link → p.cause called source link s → number_of s ≡ 9
   pub may_end : (called : Called) (source : Shown ℕ) (link : Shown Event) (s : Status) → p.cause called source link s → MayEnd p (number_of s)
   pub means : (called : Called) (source : Shown ℕ) (link : Shown Event) (s : Status) → p.cause called source link s → Means p called source link s
-  -- what is looked up is so over the link, and so is who counts strays, what is restored and whose value may be refused; and
-  -- a search needs none
+  -- what is looked up is so over the link, and so is who counts strays, what is restored, whose value may be refused and whose
+  -- proof; and a search needs none
   pub seeks : ¬ IsTrue p.links → (called : Called) (source : Shown ℕ) → ¬ p.no_seeds called source
   pub counts : ¬ IsTrue p.links → (called : Called) (source : Shown ℕ) (link : Shown Event) → ¬ p.strays called source link
   pub restores : ¬ IsTrue p.links → (source : Shown ℕ) → ¬ p.unsound source
   pub refuses : ¬ IsTrue p.links → ¬ p.refused
+  pub vouches : ¬ IsTrue p.links → (random : List ℕ) → ¬ p.unproved random
   pub no_link : (random : List ℕ) → p.nothing random → ¬ IsTrue p.links

@@ -10,3 +10,4 @@ pub mod Results
 pub mod Staged
 pub mod Starting
 pub mod Valued
+pub mod Vouched

@@ -128,6 +128,7 @@ reading_lawful aim law = record {
   counts = law.counts;
   restores = law.restores;
   refuses = λ none_ refused. refused;
+  vouches = λ none_ random unproved. unproved;
   no_link = λ random nothing links. nothing;
 }
 
@@ -178,6 +179,7 @@ unread_lawful ends ranges text nothing apart ended = record {
   counts = λ none_ called source link last. last;
   restores = λ none_ source unsound. unsound;
   refuses = λ none_ refused. refused;
+  vouches = λ none_ random unproved. unproved;
   no_link = λ random found links. true≢false (sym links);
 }
 

@@ -11,9 +11,9 @@ use Rattle.kad_base.specs.declared.serial.Made.{Made}
 use Rattle.kad_base.specs.Contacts.{IsUsable}
 use Rattle.kad_base.specs.Serial.{left_by, IsRun, made}
 use Rattle.contact_table.specs.declared.calls.TableCall.{TableCall}
-use Rattle.contact_table.specs.declared.calls.TableCall.TheVariants.{Seen as Seen_call, Failed, Closest}
+use Rattle.contact_table.specs.declared.calls.TableCall.TheVariants.{Seen as Seen_call, Vouched, Failed}
 use Rattle.contact_table.specs.declared.calls.TableReply.{TableReply}
-use Rattle.contact_table.specs.declared.calls.TableReply.TheVariants.{Seen as Seen_reply, Gone as Gone_reply, List as List_reply, Crowded, NoMemory}
+use Rattle.contact_table.specs.declared.calls.TableReply.TheVariants.{Seen as Seen_reply, Gone as Gone_reply, NoMemory}
 use Rattle.contact_table.specs.TableState.{TableState}
 use Rattle.contact_table.specs.TableStep.{TableMay, TableStep, table_after, contacts_of}
 use Rattle.contact_table.specs.Told.{limited_table, told_by, told_in as contacts_in}
@@ -70,20 +70,9 @@ told_more cs i c t u v lt a b =
 
 own_after : (s : TableState) (role : ℕ) (call : TableCall) (reply : TableReply) → (table_after s role call reply).own ≡ s.own
 own_after s role (Seen_call c) (Seen_reply seen) = refl
-own_after s role (Seen_call c) (Gone_reply gone) = refl
-own_after s role (Seen_call c) (List_reply list) = refl
-own_after s role (Seen_call c) Crowded = refl
-own_after s role (Seen_call c) NoMemory = refl
-own_after s role (Failed c) (Seen_reply seen) = refl
+own_after s role (Vouched c proof) (Seen_reply seen) = refl
 own_after s role (Failed c) (Gone_reply gone) = refl
-own_after s role (Failed c) (List_reply list) = refl
-own_after s role (Failed c) Crowded = refl
-own_after s role (Failed c) NoMemory = refl
-own_after s role (Closest target n) (Seen_reply seen) = refl
-own_after s role (Closest target n) (Gone_reply gone) = refl
-own_after s role (Closest target n) (List_reply list) = refl
-own_after s role (Closest target n) Crowded = refl
-own_after s role (Closest target n) NoMemory = refl
+own_after s role call reply = refl
 
 own_left : (s : TableState) (run : List (Made TableCall TableReply)) → (left_by table_after s run).own ≡ s.own
 own_left s [] = refl

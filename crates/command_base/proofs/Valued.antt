@@ -80,5 +80,6 @@ module _ (good : Type 0) (aim : Aim) (law : Lawful (reading aim)) (over : IsTrue
     counts = λ none_. absurd (none_ over);
     restores = λ none_. absurd (none_ over);
     refuses = λ none_. absurd (none_ over);
+    vouches = λ none_. absurd (none_ over);
     no_link = λ random nothing links. nothing;
   }

@@ -2,7 +2,7 @@
 use Rattle.std.specs.Prelude.{◌≡◌, ◌⊎◌, ℕ, List, ◌++◌, ◌∷◌, codes, decimal}
 use Rattle.kad_base.specs.Outside.{Grows}
 use Rattle.command_base.specs.declared.status.Status.{Status}
-use Rattle.command_base.specs.declared.status.Status.TheVariants.{Usage, BadLine, LinkFault, SourceFault, Strays, NoSeeds, NoMemory, Unminted, TooLong, BadValue, Unsound}
+use Rattle.command_base.specs.declared.status.Status.TheVariants.{Usage, BadLine, LinkFault, SourceFault, Strays, NoSeeds, NoMemory, Unminted, TooLong, BadValue, Unsound, BadProof}
 use Rattle.command_base.specs.Written.{IsFront}
 use Rattle.command_base.specs.Shown.{Shown, HasFailed}
 use Rattle.command_base.specs.Promise.{Promise, IsOneOf}
@@ -20,10 +20,11 @@ number_of Unminted = 10
 number_of TooLong = 11
 number_of BadValue = 12
 number_of Unsound = 13
+number_of BadProof = 15
 
--- no number is greater
+-- no number is greater. No command ends with 14, which is that of a program that can bind no socket
 abbrev pub last_status : ℕ
-last_status = 13
+last_status = 15
 
 -- the line of a status
 abbrev pub status_line : Status → List ℕ
@@ -38,6 +39,7 @@ status_line Unminted = codes "unminted\n"
 status_line TooLong = codes "too long\n"
 status_line BadValue = codes "bad value\n"
 status_line Unsound = codes "unsound\n"
+status_line BadProof = codes "bad proof\n"
 
 -- the text was written, and no write failed; or a front of it, where the sink's faults rose
 abbrev pub Writes : List ℕ → Shown ℕ → Type 0
@@ -51,7 +53,7 @@ MayEnd promise status = IsOneOf (0 ∷ 5 ∷ 9 ∷ promise.ends) status
 
 -- the statuses that end a command before it calls the link
 abbrev pub EndsUnasked : ℕ → Type 0
-EndsUnasked status = (status ≡ 2) ⊎ (status ≡ 3) ⊎ (status ≡ 6) ⊎ (status ≡ 8) ⊎ (status ≡ 10) ⊎ (status ≡ 11) ⊎ (status ≡ 12) ⊎ (status ≡ 13)
+EndsUnasked status = (status ≡ 2) ⊎ (status ≡ 3) ⊎ (status ≡ 6) ⊎ (status ≡ 8) ⊎ (status ≡ 10) ⊎ (status ≡ 11) ⊎ (status ≡ 12) ⊎ (status ≡ 13) ⊎ (status ≡ 15)
 
 -- this status, or that of no memory
 abbrev pub OrNoMemory : ℕ → ℕ → Type 0

@@ -5,4 +5,5 @@ pub mod Printed
 pub mod Promise
 pub mod Shown
 pub mod Started
+pub mod Vouched
 pub mod Written

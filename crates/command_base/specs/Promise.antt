@@ -3,7 +3,7 @@
 use Rattle.std.specs.Prelude.{◌≡◌, ◌⊎◌, ℕ, List, [], ◌∷◌, Bool, true, false}
 use Rattle.kad_base.specs.declared.types.Event.{Event}
 use Rattle.command_base.specs.declared.status.Status.{Status}
-use Rattle.command_base.specs.declared.status.Status.TheVariants.{BadLine, LinkFault, SourceFault, NoMemory, Unminted, TooLong, BadValue}
+use Rattle.command_base.specs.declared.status.Status.TheVariants.{BadLine, LinkFault, SourceFault, NoMemory, Unminted, TooLong, BadValue, BadProof}
 use Rattle.command_base.specs.Input.{ReadsFew, ReadsTooMuch, ReadsWell, IsBadLine, IsGood, AreGoodLines, IsBadContactLine}
 use Rattle.command_base.specs.Shown.{Shown, IsTold, HasFailed}
 use Rattle.command_base.specs.Called.{Called}
@@ -37,6 +37,8 @@ pub record Promise : Type 1 where
   pub nothing : List ℕ → Type 0
   -- its words have a value that it refuses before it reads anything
   pub refused : Type 0
+  -- its words have a proof that doesn't show that its own identifier was made
+  pub unproved : List ℕ → Type 0
   -- why it has no text
   pub cause : Called → Shown ℕ → Shown Event → Status → Type 0
   -- what it needs to have one
@@ -101,6 +103,7 @@ reading aim = record {
   begun = aim.begun;
   nothing = λ random. ⊥;
   refused = ⊥;
+  unproved = λ random. ⊥;
   cause = λ called source link status. ReadingCause aim.bad (aim.cause called source link) source status;
   needs = aim.needs;
 }
@@ -183,8 +186,40 @@ valued good aim = record {
   begun = aim.begun;
   nothing = λ random. ⊥;
   refused = ¬ good;
+  unproved = λ random. ⊥;
   cause = λ called source link status. ValueCause good (λ s. ReadingCause aim.bad (aim.cause called source link) source s) source status;
   needs = λ called source link. good × aim.needs called source link;
+}
+
+-- ---- a command that may be given a proof of its own identifier, and first of all looks whether it is one
+
+-- why it has no text: the proof is none of it, and nothing was read; or it is, and what it does then has none
+abbrev pub ProofCause : Type 0 → (Status → Type 0) → Shown ℕ → Status → Type 0
+ProofCause good behind source BadProof = (¬ good) × (source.after ≡ source.before)
+ProofCause good behind source NoMemory = Unit {0}
+ProofCause good behind source other = good × behind other
+
+-- what it promises, by whether its proof is good, for these random bytes, and by what it does then
+abbrev pub vouched : (List ℕ → Type 0) → Aim → Promise
+vouched good aim = record {
+  reads = true;
+  links = aim.links;
+  bad = aim.bad;
+  unsound = aim.unsound;
+  no_seeds = λ called source. good called.random × aim.no_seeds called source;
+  last_stray = aim.last_stray;
+  strays = aim.strays;
+  few = aim.few;
+  ends = 15 ∷ 3 ∷ 6 ∷ 11 ∷ aim.ends;
+  ranges = aim.ranges;
+  text = λ called source link written. good called.random × aim.text called source link written;
+  started = aim.started;
+  begun = aim.begun;
+  nothing = λ random. ⊥;
+  refused = ⊥;
+  unproved = λ random. ¬ good random;
+  cause = λ called source link status. ProofCause (good called.random) (λ s. ReadingCause aim.bad (aim.cause called source link) source s) source status;
+  needs = λ called source link. good called.random × aim.needs called source link;
 }
 
 -- ---- a command that reads nothing and takes no link
@@ -213,6 +248,7 @@ unread ends ranges text nothing = record {
   begun = λ called source link. ⊥;
   nothing = nothing;
   refused = ⊥;
+  unproved = λ random. ⊥;
   cause = λ called source link status. UnreadCause (nothing called.random) source status;
   needs = λ called source link. ¬ nothing called.random;
 }

@@ -8,6 +8,7 @@ pub mod input;
 pub mod output;
 pub mod printed;
 mod status;
+pub mod vouch;
 
 pub use call::Call;
 pub use status::Status;

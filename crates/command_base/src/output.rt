@@ -52,7 +52,7 @@ pub fn write_output<K: Sink>(sink: &mut K, output: &[u8]) -> u8
 /// The line is whole before its first byte is written, and takes no memory.
 pub fn write_line<K: Sink>(sink: &mut K, status: &Status) -> u8
     ensures number { result ≡ number_of status.now }
-    ensures known { (1 < result) × (result ≤ last_status) × (result ≢ 5) }
+    ensures known { (1 < result) × (result ≤ last_status) × (result ≢ 5) × (result ≢ 14) }
     ensures writes { Writes (status_line status.now) (shown K.written K.faults sink.old sink.new) }
     ensures last { (K.faults sink.new ≡ K.faults sink.old)
         ⊎ FailsLast K.written K.faults sink.old sink.new }

@@ -33,6 +33,8 @@ pub enum Status {
     BadValue,
     /// The input is a saved table that isn't sound.
     Unsound,
+    /// The proof of the words doesn't show that the node's own identifier was made.
+    BadProof,
 }
 
 impl From<NoMemory> for Status {
@@ -61,7 +63,7 @@ impl Status {
     /// The exit status.
     pub fn number(&self) -> u8
         ensures number { result ≡ number_of self.now }
-        ensures known { (1 < result) × (result ≤ last_status) × (result ≢ 5) }
+        ensures known { (1 < result) × (result ≤ last_status) × (result ≢ 5) × (result ≢ 14) }
     {
         match self {
             Status::Usage => 2,
@@ -75,6 +77,7 @@ impl Status {
             Status::TooLong => 11,
             Status::BadValue => 12,
             Status::Unsound => 13,
+            Status::BadProof => 15,
         }
     }
 
@@ -95,6 +98,7 @@ impl Status {
             Status::TooLong => put_bytes(room, 0, b"too long\n"),
             Status::BadValue => put_bytes(room, 0, b"bad value\n"),
             Status::Unsound => put_bytes(room, 0, b"unsound\n"),
+            Status::BadProof => put_bytes(room, 0, b"bad proof\n"),
         }
     }
 }

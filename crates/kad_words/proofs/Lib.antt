@@ -4,5 +4,6 @@ pub mod GroupWords
 pub mod Listing
 pub mod OneCommand
 pub mod Parsing
+pub mod ProofWord
 pub mod Stripped
 pub mod WordForm

@@ -5,12 +5,13 @@ use Rattle.std.specs.List.{list_all}
 use Rattle.std.proofs.lemmas.Bool.{and_parts}
 use Rattle.std.proofs.lemmas.Bool.Decides.{nat_tests}
 use Rattle.kad_base.specs.declared.types.Id.{Id}
+use Rattle.kad_base.specs.declared.types.Proof.{Proof}
 use Rattle.kad_base.specs.declared.types.Policy.{Policy}
 use Rattle.kad_base.specs.declared.types.Policy.TheVariants as policy
 use Rattle.kad_base.specs.declared.types.Family.{Family}
 use Rattle.kad_base.specs.declared.types.Family.TheVariants.{Four, Six}
 use Rattle.kad_text.specs.Text.{SpellsBytes, SpellsHex, SpellsId, SpellsNumber, version}
-use Rattle.kad_words.specs.Table.{AreLooks, AreSaid, Choice, Entry, FamilyOf, IsLook, IsLookAt, IsLookOf, IsSaid, MayIdOf, MayNumberOf, MaySeedOf, NumberOf, Part, PolicyBy, Says, StandsOf, Values, Word, family_option, per_address_option, key_of, kind_of, kind_word, no_target, parts_of, word_of, YesOf}
+use Rattle.kad_words.specs.Table.{AreLooks, AreSaid, Choice, Entry, FamilyOf, IsLook, IsLookAt, IsLookOf, IsSaid, IsNodeOwn, MayIdOf, MayNumberOf, MayProofOf, MaySeedOf, NumberOf, Part, PolicyBy, Says, StandsOf, Values, Word, family_option, per_address_option, key_of, kind_of, kind_word, no_target, parts_of, word_of, YesOf, named_or_made, own_option, proof_option}
 use Rattle.kad_words.specs.Table.Part.{gives_id, gives_seed, gives_number, may_give_number, gives_yes, says_whether, gives_policy, gives_look, gives_item, gives_looks}
 use Rattle.kad_words.specs.Plain.{CommandOf, IsPlain, pairs_of, values_of}
 use Rattle.kad_words.specs.Fitting.{ends_below}
@@ -29,9 +30,10 @@ use Rattle.kad_words.specs.declared.command.RefreshWords.{RefreshWords}
 use Rattle.kad_words.specs.declared.command.ServeWords.{ServeWords}
 use Rattle.kad_words.specs.declared.command.SimWords.{SimWords}
 use Rattle.kad_words.specs.declared.command.TableWords.{TableWords}
-use Rattle.kad_words.specs.Values.{FamilyBy, IsGiven, IsGivenOr, MayBeGiven, MayNumberBy, NumberBy, SpellsYes, YesBy}
+use Rattle.kad_words.specs.Values.{FamilyBy, IsGiven, IsGivenOr, MayBeGiven, MayNumberBy, NumberBy, SpellsProofWord, SpellsYes, YesBy}
 use Rattle.kad_words.proofs.Checks.{pairs_are}
 use Rattle.kad_words.proofs.Listing.{one_word}
+use Rattle.kad_words.proofs.ProofWord.{proof_once}
 use Rattle.kad_text.proofs.OneSpelling.{bytes_once, family_once, hex_once, id_once, number_once}
 
 -- ---- a word is that of one command
@@ -119,10 +121,20 @@ look_family_once value a b s t = family_by_once IpVersion (OrElse 4) _ a.family 
 look_crowd_once : (value : Values) (a b : LookWords) → NumberOf per_address_option value a.per_address → NumberOf per_address_option value b.per_address → a.per_address ≡ b.per_address
 look_crowd_once value a b s t = or_once 0 0 255 (lit< tt) _ a.per_address b.per_address s t
 
-look_at_once : (c d : Id) (value : Values) (a b : LookWords) → c ≡ d → a.family ≡ b.family → a.per_address ≡ b.per_address → IsLookAt c value a → IsLookAt d value b → a ≡ b
-look_at_once c d value a b same family crowd s t =
+look_own_once : (value : Values) (a b : LookWords) → MayIdOf own_option value a.own → MayIdOf own_option value b.own → a.own ≡ b.own
+look_own_once value a b s t = may_once SpellsId id_once _ a.own b.own s t
+
+node_own_once : (value : Values) (p q : Option Proof) (a b : Option Id) → p ≡ q → IsNodeOwn value p a → IsNodeOwn value q b → a ≡ b
+node_own_once value p q a b same s t =
+    let named : s.0 ≡ t.0 = may_once SpellsId id_once _ s.0 t.0 s.1 t.1 in
+    s.2 ∙ ap (λ (n : Option Id). named_or_made n p) named ∙ ap (named_or_made t.0) same ∙ sym t.2
+
+node_proof_once : (value : Values) (p q : Option Proof) → MayProofOf proof_option value p → MayProofOf proof_option value q → p ≡ q
+node_proof_once value p q s t = may_once SpellsProofWord proof_once _ p q s t
+
+look_at_once : (c d : Id) (value : Values) (a b : LookWords) → c ≡ d → a.own ≡ b.own → a.family ≡ b.family → a.per_address ≡ b.per_address → IsLookAt c value a → IsLookAt d value b → a ≡ b
+look_at_once c d value a b same own family crowd s t =
     let target = s.target ∙ same ∙ sym t.target in
-    let own = may_once SpellsId id_once _ a.own b.own s.own t.own in
     let k = or_once 8 1 20 (lit< tt) _ a.k b.k s.k t.k in
     let paths = or_once 4 1 8 (lit< tt) _ a.paths b.paths s.paths t.paths in
     let alpha = or_once 3 1 4 (lit< tt) _ a.alpha b.alpha s.alpha t.alpha in
@@ -135,10 +147,14 @@ look_at_once c d value a b same family crowd s t =
 look_once : (goal : Entry) (value : Values) (a b : LookWords) → IsLook goal value a → IsLook goal value b → a ≡ b
 look_once goal value a b s t =
     let target = given_once SpellsId id_once _ a.target b.target s.0.0 t.0.0 in
-    look_at_once a.target b.target value a b target (look_family_once value a b s.0.1 t.0.1) (look_crowd_once value a b s.0.2 t.0.2) s.1 t.1
+    look_at_once a.target b.target value a b target (look_own_once value a b s.0.3 t.0.3) (look_family_once value a b s.0.1 t.0.1) (look_crowd_once value a b s.0.2 t.0.2) s.1 t.1
 
-looks_once : (value : Values) (a b : LookWords) → AreLooks value a → AreLooks value b → a ≡ b
-looks_once value a b s t = look_at_once no_target no_target value a b refl (s.0 ∙ sym t.0) (look_crowd_once value a b s.1 t.1) s.2 t.2
+looks_once : (value : Values) (p q : Option Proof) (a b : LookWords) → AreLooks value p a → AreLooks value q b → gives_looks p a ≡ gives_looks q b
+looks_once value p q a b s t =
+    let proof = node_proof_once value p q s.3 t.3 in
+    let own = node_own_once value p q a.own b.own proof s.4 t.4 in
+    let look = look_at_once no_target no_target value a b refl own (s.0 ∙ sym t.0) (look_crowd_once value a b s.1 t.1) s.2 t.2 in
+    λ i. gives_looks (proof i) (look i)
 
 item_once : (goal : Entry) (value : Values) (x y : List ℕ) → IsGiven SpellsBytes (value goal.name) x → IsGiven SpellsBytes (value goal.name) y → x ≡ y
 item_once goal value x y s t = given_once SpellsBytes bytes_once _ x y s t
@@ -174,7 +190,7 @@ shape (says_whether c x) = of_whether c
 shape (gives_policy x) = of_policy
 shape (gives_look c x) = of_look c
 shape (gives_item c x l) = of_item c
-shape (gives_looks x) = of_looks
+shape (gives_looks p x) = of_looks
 
 -- its numbers are so small that one text spells one of them
 abbrev is_small : Part → Bool
@@ -216,8 +232,8 @@ part_once value (gives_item c x k) (gives_item d y l) e small s t =
     let same : d ≡ c = cc in
     let t' = subst (λ (g : Choice). IsLookOf g.entry value y l) same t in
     let one : x ≡ y = item_once c.entry value x y s.0.0 t'.0.0 in
-    let looks : k ≡ l = look_at_once (key_of x) (key_of y) value k l (ap key_of one) (look_family_once value k l s.0.1 t'.0.1) (look_crowd_once value k l s.0.2 t'.0.2) s.1 t'.1 in cc
-part_once value (gives_looks x) (gives_looks y) e small s t = ap gives_looks (looks_once value x y s t)
+    let looks : k ≡ l = look_at_once (key_of x) (key_of y) value k l (ap key_of one) (look_own_once value k l s.0.3 t'.0.3) (look_family_once value k l s.0.1 t'.0.1) (look_crowd_once value k l s.0.2 t'.0.2) s.1 t'.1 in cc
+part_once value (gives_looks p x) (gives_looks q y) e small s t = looks_once value p q x y s t
 part_once value x y e small s t = absurd cc
 
 parts_once : (value : Values) (xs ys : List Part) → map shape xs ≡ map shape ys → list_all is_small xs ≡ true → AreSaid value xs → AreSaid value ys → xs ≡ ys
@@ -258,10 +274,11 @@ serve_once a b same =
 node_once : (a b : NodeWords) → parts_of (Node a) ≡ parts_of (Node b) → a ≡ b
 node_once a b same =
     let look_is : a.look ≡ b.look = cc in
+    let proof_is : a.proof ≡ b.proof = cc in
     let receives_is : a.receives ≡ b.receives = cc in
     let minutes_is : a.minutes ≡ b.minutes = cc in
     let table_is : a.table ≡ b.table = cc in
-    λ i. record { look = look_is i; receives = receives_is i; minutes = minutes_is i; table = table_is i }
+    λ i. record { look = look_is i; proof = proof_is i; receives = receives_is i; minutes = minutes_is i; table = table_is i }
 
 table_once : (a b : TableWords) → parts_of (Table a) ≡ parts_of (Table b) → a ≡ b
 table_once a b same =

@@ -4,12 +4,13 @@ use Rattle.std.specs.List.{IsDistinct}
 use Rattle.std.specs.Option.{IsSomeAnd}
 use Rattle.kad_base.specs.declared.types.Id.{Id}
 use Rattle.kad_base.specs.declared.types.Addr.{Addr}
+use Rattle.kad_base.specs.declared.types.Proof.{Proof}
 use Rattle.kad_base.specs.declared.types.Family.{Family}
 use Rattle.kad_text.specs.Text.{SpellsAddr, SpellsBytes, SpellsFamily, SpellsHex, SpellsId, SpellsNumber}
 use Rattle.kad_words.specs.Table.{Entry, Says, Values, Word, kind_named, kind_word, option_word, options_of, word_of}
-use Rattle.kad_words.specs.Values.{SpellsYes}
+use Rattle.kad_words.specs.Values.{SpellsProofWord, SpellsYes}
 use Rattle.kad_words.specs.declared.choice.Kind.{Kind}
-use Rattle.kad_words.specs.declared.choice.Kind.TheVariants.{Identifier, Bytes32, AnyBytes, Number, IpVersion, Address, YesNo}
+use Rattle.kad_words.specs.declared.choice.Kind.TheVariants.{Identifier, Bytes32, AnyBytes, Number, IpVersion, Address, YesNo, KeyAndX}
 use Rattle.kad_words.specs.declared.choice.Need.{Need}
 use Rattle.kad_words.specs.declared.choice.Need.TheVariants.{Required, Optional, OrElse, OrNo}
 use Rattle.kad_words.specs.declared.command.Command.{Command}
@@ -43,6 +44,7 @@ IsOfKind (Number least most) text = (n : ℕ) × SpellsNumber least most text n
 IsOfKind IpVersion text = (family : Family) × SpellsFamily text family
 IsOfKind Address text = (addr : Addr) × SpellsAddr text addr
 IsOfKind YesNo text = (said : Bool) × SpellsYes text said
+IsOfKind KeyAndX text = (proof : Proof) × SpellsProofWord text proof
 
 -- the option is one of these, and the value is one of its kind
 abbrev pub Belongs : List Entry → Word × Word → Type 0

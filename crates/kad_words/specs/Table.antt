@@ -5,18 +5,19 @@ use Rattle.std.specs.List.{list_any}
 use Rattle.kad_base.specs.declared.types.Family.{Family}
 use Rattle.kad_base.specs.declared.types.Family.TheVariants.{Four}
 use Rattle.kad_base.specs.declared.types.Id.{Id}
+use Rattle.kad_base.specs.declared.types.Proof.{Proof}
 use Rattle.kad_base.specs.declared.types.Policy.{Policy}
 use Rattle.kad_base.specs.declared.types.Policy.TheVariants as policy
 use Rattle.kad_base.specs.Puzzles.{hash}
 use Rattle.kad_text.specs.Text.{SpellsBytes, SpellsHex, SpellsId}
-use Rattle.kad_words.specs.Values.{FamilyBy, IsGiven, MayBeGiven, MayNumberBy, NumberBy, YesBy}
+use Rattle.kad_words.specs.Values.{FamilyBy, IsGiven, MayBeGiven, MayNumberBy, NumberBy, SpellsProofWord, YesBy}
 use Rattle.kad_words.specs.declared.command.Command.{Command}
 use Rattle.kad_words.specs.declared.command.Command.TheVariants.{Lookup, Peers, Get, Put, Serve, Node, Table, Refresh, Check, Mint, Sim}
 use Rattle.kad_words.specs.declared.command.CommandKind.{CommandKind}
 use Rattle.kad_words.specs.declared.command.CommandKind.TheVariants as kind
 use Rattle.kad_words.specs.declared.command.LookWords.{LookWords}
 use Rattle.kad_words.specs.declared.choice.Kind.{Kind}
-use Rattle.kad_words.specs.declared.choice.Kind.TheVariants.{Identifier, Bytes32, AnyBytes, Number, IpVersion, Address, YesNo}
+use Rattle.kad_words.specs.declared.choice.Kind.TheVariants.{Identifier, Bytes32, AnyBytes, Number, IpVersion, Address, YesNo, KeyAndX}
 use Rattle.kad_words.specs.declared.choice.Need.{Need}
 use Rattle.kad_words.specs.declared.choice.Need.TheVariants.{Required, Optional, OrElse, OrNo}
 
@@ -101,7 +102,7 @@ links kind.Refresh = true
 links other = false
 
 -- ---- the options. An identifier is 40 hex digits, and 32 bytes are 64; other bytes are two digits each, however many they
--- are; times are milliseconds
+-- are; a proof is 64 hex digits, a comma and 40; times are milliseconds
 
 abbrev pub target_option : Choice
 target_option = choice (codes "target") Identifier Required (lookup ∷ [])
@@ -114,6 +115,10 @@ value_option = choice (codes "value") AnyBytes Required (put ∷ [])
 
 abbrev pub own_option : Choice
 own_option = choice (codes "own") Identifier Optional (lookup ∷ peers ∷ get ∷ put ∷ serve ∷ node ∷ table ∷ [])
+
+-- the proof that the node's own identifier was made (S/Kademlia, 2007, section 4.1)
+abbrev pub proof_option : Choice
+proof_option = choice (codes "proof") KeyAndX Optional (node ∷ [])
 
 abbrev pub k_option : Choice
 k_option = choice (codes "k") (Number 1 20) (OrElse 8) (lookup ∷ peers ∷ get ∷ put ∷ serve ∷ node ∷ table ∷ sim ∷ [])
@@ -190,7 +195,7 @@ hostile_option = choice (codes "hostile") (Number 0 100) (OrElse 0) (sim ∷ [])
 
 -- all of them
 abbrev pub every_option : List Choice
-every_option = target_option ∷ key_option ∷ value_option ∷ own_option ∷ k_option ∷ paths_option ∷ alpha_option ∷ timeout_option ∷ bits_option ∷ c1_option ∷ c2_option ∷ family_option ∷ per_address_option ∷ bind_option ∷ group_option ∷ announce_option ∷ spread_option ∷ receives_option
+every_option = target_option ∷ key_option ∷ value_option ∷ own_option ∷ proof_option ∷ k_option ∷ paths_option ∷ alpha_option ∷ timeout_option ∷ bits_option ∷ c1_option ∷ c2_option ∷ family_option ∷ per_address_option ∷ bind_option ∷ group_option ∷ announce_option ∷ spread_option ∷ receives_option
     ∷ node_receives_option ∷ minutes_option ∷ workers_option ∷ table_option ∷ all_option ∷ seed_option ∷ tries_option ∷ nodes_option ∷ hostile_option ∷ []
 
 -- the options of a command
@@ -211,10 +216,13 @@ kind_named entries word = option_map (λ (e : Entry). e.kind) (find (λ (e : Ent
 abbrev pub Values : Type 0
 Values = Word → Option Word
 
--- what the values give for an option of each kind: an identifier, a seed, a number, a family, whether it says yes, or whether
--- it is given
+-- what the values give for an option of each kind: an identifier, a proof, a seed, a number, a family, whether it says yes, or
+-- whether it is given
 abbrev pub MayIdOf : Choice → Values → Option Id → Type 0
 MayIdOf c value id = MayBeGiven SpellsId (value c.entry.name) id
+
+abbrev pub MayProofOf : Choice → Values → Option Proof → Type 0
+MayProofOf c value proof = MayBeGiven SpellsProofWord (value c.entry.name) proof
 
 abbrev pub MaySeedOf : Choice → Values → Option (List ℕ) → Type 0
 MaySeedOf c value seed = MayBeGiven (SpellsHex 32) (value c.entry.name) seed
@@ -252,6 +260,16 @@ PolicyOf value p = PolicyBy (value c1_option.entry.name) (value c2_option.entry.
 abbrev pub key_of : List ℕ → Id
 key_of item = record { 0 = hash item }
 
+-- the identifier that the key of a proof makes: its hash (S/Kademlia, 2007, section 4.1)
+abbrev pub made_by : Proof → Id
+made_by proof = record { 0 = hash proof.key }
+
+-- a node's own identifier, if any: the one that is named; or if none is, the one that its proof makes
+abbrev pub named_or_made : Option Id → Option Proof → Option Id
+named_or_made (Some id) proof = Some id
+named_or_made None None = None
+named_or_made None (Some proof) = Some (made_by proof)
+
 -- the target if the words name none: 20 zero bytes
 abbrev pub no_target : Id
 no_target = record { 0 = replicate 20 0 }
@@ -272,10 +290,9 @@ plain_look goal k paths alpha timeout = record {
   per_address = 0;
 }
 
--- the options of a lookup with this target, but for its family and how many contacts of one host a path has
+-- the options of a lookup with this target, but for its own identifier, its family and how many contacts of one host a path has
 pub record IsLookAt (goal : Id) (value : Values) (look : LookWords) : Type 0 where
   pub target : look.target ≡ goal
-  pub own : MayIdOf own_option value look.own
   pub k : NumberOf k_option value look.k
   pub paths : NumberOf paths_option value look.paths
   pub alpha : NumberOf alpha_option value look.alpha
@@ -284,21 +301,31 @@ pub record IsLookAt (goal : Id) (value : Values) (look : LookWords) : Type 0 whe
   pub policy : PolicyOf value look.policy
   pub sealed : StandsOf group_option value look.sealed
 
--- the same, if the target is the value of `goal`, and the family and how many of one host are those of the words
+-- the same, if the target is the value of `goal`, and the family, how many of one host and its own identifier are those of the
+-- words
 abbrev pub IsLook : Entry → Values → LookWords → Type 0
-IsLook goal value look = (IsGiven SpellsId (value goal.name) look.target × FamilyOf family_option value look.family × NumberOf per_address_option value look.per_address) × IsLookAt look.target value look
+IsLook goal value look =
+    (IsGiven SpellsId (value goal.name) look.target × FamilyOf family_option value look.family × NumberOf per_address_option value look.per_address × MayIdOf own_option value look.own)
+    × IsLookAt look.target value look
 
 -- the same, if the target is the key of an item, which is the value of an option
 abbrev pub IsLookOf : Entry → Values → List ℕ → LookWords → Type 0
-IsLookOf goal value item look = (IsGiven SpellsBytes (value goal.name) item × FamilyOf family_option value look.family × NumberOf per_address_option value look.per_address) × IsLookAt (key_of item) value look
+IsLookOf goal value item look =
+    (IsGiven SpellsBytes (value goal.name) item × FamilyOf family_option value look.family × NumberOf per_address_option value look.per_address × MayIdOf own_option value look.own)
+    × IsLookAt (key_of item) value look
 
--- the same of lookups over IPv4, whose targets the words don't name
-abbrev pub AreLooks : Values → LookWords → Type 0
-AreLooks value look = (look.family ≡ Four) × NumberOf per_address_option value look.per_address × IsLookAt no_target value look
+-- a node's own identifier, by what the words name and by its proof
+abbrev pub IsNodeOwn : Values → Option Proof → Option Id → Type 0
+IsNodeOwn value proof own = (named : Option Id) × MayIdOf own_option value named × (own ≡ named_or_made named proof)
+
+-- the same of lookups over IPv4, whose targets the words don't name, by a node that may have a proof
+abbrev pub AreLooks : Values → Option Proof → LookWords → Type 0
+AreLooks value proof look =
+    (look.family ≡ Four) × NumberOf per_address_option value look.per_address × IsLookAt no_target value look × MayProofOf proof_option value proof × IsNodeOwn value proof look.own
 
 -- a part of a command, and the option that gives it: an identifier, a seed, a number, a number that may be left out,
 -- whether it says yes, whether it is given; or a policy, a lookup with the option that names its target, an item and the
--- lookup of its key, or lookups whose targets no option names
+-- lookup of its key, or a proof and lookups whose targets no option names
 pub data Part : Type 0 where
   gives_id : Choice → Option Id → Part
   gives_seed : Choice → Option (List ℕ) → Part
@@ -309,7 +336,7 @@ pub data Part : Type 0 where
   gives_policy : Policy → Part
   gives_look : Choice → LookWords → Part
   gives_item : Choice → List ℕ → LookWords → Part
-  gives_looks : LookWords → Part
+  gives_looks : Option Proof → LookWords → Part
 
 -- the values give this part
 abbrev pub IsSaid : Values → Part → Type 0
@@ -322,7 +349,7 @@ IsSaid value (says_whether c stands) = StandsOf c value stands
 IsSaid value (gives_policy policy) = PolicyOf value policy
 IsSaid value (gives_look c look) = IsLook c.entry value look
 IsSaid value (gives_item c item look) = IsLookOf c.entry value item look
-IsSaid value (gives_looks look) = AreLooks value look
+IsSaid value (gives_looks proof look) = AreLooks value proof look
 
 -- each of these
 abbrev pub AreSaid : Values → List Part → Type 0
@@ -337,7 +364,7 @@ parts_of (Get look) = gives_look key_option look ∷ []
 parts_of (Put look item spread) = gives_item value_option item look ∷ gives_yes spread_option spread ∷ []
 parts_of (Serve words) =
     gives_id own_option words.own ∷ gives_number k_option words.k ∷ gives_number bits_option words.bits ∷ gives_policy words.policy ∷ gives_number per_address_option words.per_address ∷ gives_number receives_option words.receives ∷ gives_number minutes_option words.minutes ∷ gives_number workers_option words.workers ∷ says_whether group_option words.sealed ∷ gives_yes table_option words.table ∷ []
-parts_of (Node words) = gives_looks words.look ∷ gives_number node_receives_option words.receives ∷ gives_number minutes_option words.minutes ∷ gives_yes table_option words.table ∷ []
+parts_of (Node words) = gives_looks words.proof words.look ∷ gives_number node_receives_option words.receives ∷ gives_number minutes_option words.minutes ∷ gives_yes table_option words.table ∷ []
 parts_of (Table words) = gives_id own_option words.own ∷ gives_number k_option words.k ∷ gives_number bits_option words.bits ∷ gives_policy words.policy ∷ []
 parts_of (Refresh words) = gives_number timeout_option words.timeout ∷ says_whether group_option words.sealed ∷ gives_yes all_option words.all ∷ []
 parts_of (Check policy) = gives_policy policy ∷ []

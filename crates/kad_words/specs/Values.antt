@@ -1,7 +1,8 @@
 -- What the value of an option gives, if it is given and if it isn't.
-use Rattle.std.specs.Prelude.{◌≡◌, ℕ, List, codes, Bool, true, false, Option, Some, None}
+use Rattle.std.specs.Prelude.{◌≡◌, ℕ, List, ◌++◌, codes, Bool, true, false, Option, Some, None}
 use Rattle.kad_base.specs.declared.types.Family.{Family}
-use Rattle.kad_text.specs.Text.{SpellsFamily, SpellsNumber, version}
+use Rattle.kad_base.specs.declared.types.Proof.{Proof}
+use Rattle.kad_text.specs.Text.{SpellsFamily, SpellsHex, SpellsNumber, version}
 use Rattle.kad_words.specs.declared.choice.Kind.{Kind}
 use Rattle.kad_words.specs.declared.choice.Kind.TheVariants.{IpVersion, Number, YesNo}
 use Rattle.kad_words.specs.declared.choice.Need.{Need}
@@ -44,6 +45,14 @@ FamilyBy _ _ value family = ⊥
 abbrev pub SpellsYes : List ℕ → Bool → Type 0
 SpellsYes text true = text ≡ codes "yes"
 SpellsYes text false = text ≡ codes "no"
+
+-- the word is a proof in one: the key in 64 hex digits, a comma, and X in 40
+pub record SpellsProofWord (word : List ℕ) (proof : Proof) : Type 0 where
+  pub key : List ℕ
+  pub x : List ℕ
+  pub spelled : word ≡ key ++ codes "," ++ x
+  pub spells_key : SpellsHex 32 key proof.key
+  pub spells_x : SpellsHex 20 x proof.x
 
 -- whether an option says yes that is `no` by default
 abbrev pub YesBy : Kind → Need → Option (List ℕ) → Bool → Type 0

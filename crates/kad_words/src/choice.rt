@@ -1,9 +1,11 @@
 //! An option: its name, what its value is, and what holds if it isn't given.
 ghost use Rattle.std.specs.Prelude.{◌≡◌, ◌↔◌, Bool, IsTrue, MatchOption, option_map};
+ghost use Rattle.kad_base.specs.declared.types.Proof.{Proof};
 ghost use Rattle.kad_words.specs.Table.{option_word};
 ghost use Rattle.kad_words.specs.Plain.{IsOfKind, IsThere, IsValue};
-ghost use Rattle.kad_words.specs.Values.{SpellsYes};
+ghost use Rattle.kad_words.specs.Values.{SpellsProofWord, SpellsYes};
 
+use kad_base::Proof;
 use kad_text::read::{is_hex, read_addr, read_family, read_hex, read_id, read_number};
 
 /// What the value of an option is.
@@ -23,6 +25,8 @@ pub(crate) enum Kind {
     Address,
     /// `yes` or `no`.
     YesNo,
+    /// A public key of 32 bytes and an X of 20, each in hex, with a comma between them.
+    KeyAndX,
 }
 
 /// What holds if an option isn't given.
@@ -85,6 +89,7 @@ pub(crate) fn is_of_kind(kind: Kind, text: &str) -> bool
         Kind::IpVersion => read_family(text).is_some(),
         Kind::Address => read_addr(text).is_some(),
         Kind::YesNo => read_yes(text).is_some(),
+        Kind::KeyAndX => read_proof(text).is_some(),
     }
 }
 
@@ -98,6 +103,17 @@ pub(crate) fn read_yes(text: &str) -> Option<bool>
         "no" => Some(false),
         _ => None,
     }
+}
+
+/// Reads the key and X of a proof, with a comma between them.
+pub(crate) fn read_proof(text: &str) -> Option<Proof>
+    ensures { MatchOption result ((proof : Proof) → ¬ SpellsProofWord text.now proof)
+        (λ proof. SpellsProofWord text.now proof) }
+{
+    let (key, x) = text.split_once(',')?;
+    let key = read_hex(key)?;
+    let x = read_hex(x)?;
+    Some(Proof { key, x })
 }
 
 /// Whether what is needed of an option is there.

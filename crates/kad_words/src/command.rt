@@ -1,6 +1,6 @@
 //! The commands: what each asks for, its word, its options, and how it is made of their values.
 ghost use Rattle.std.specs.Prelude.{◌≡◌, IfOk, MatchOption};
-ghost use Rattle.kad_words.specs.Table.{check, get, lookup, mint, node, peers, put, refresh, serve, sim, table, family_option, kind_word, key_of, links, options_of, per_address_option, plain_look, word_of, IsLook, IsLookAt, Says};
+ghost use Rattle.kad_words.specs.Table.{check, get, lookup, mint, node, peers, put, refresh, serve, sim, table, family_option, kind_word, key_of, links, made_by, named_or_made, options_of, per_address_option, plain_look, word_of, IsLook, IsLookAt, Says};
 ghost use Rattle.kad_words.specs.Listed.{entries_of, entry_of};
 ghost use Rattle.kad_words.specs.Taken.{taken_of};
 ghost use Rattle.kad_words.specs.Fitting.{AllFit, Fits, LookFits};
@@ -9,14 +9,14 @@ ghost use Rattle.kad_words.specs.declared.command.CommandKind.{CommandKind};
 use crate::choice::{Choice, Kind, Need};
 use crate::options::{
     ALL, ALPHA, ANNOUNCE, BIND, BITS, C1, C2, FAMILY, GROUP, HOSTILE, K, KEY, MINUTES,
-    NODE_RECEIVES, NODES, OWN, PATHS, PER_ADDRESS, RECEIVES, SEED, SPREAD, TARGET, TIMEOUT, TRIES,
-    VALUE, WITH_TABLE, WORKERS,
+    NODE_RECEIVES, NODES, OWN, PATHS, PER_ADDRESS, PROOF, RECEIVES, SEED, SPREAD, TARGET, TIMEOUT,
+    TRIES, VALUE, WITH_TABLE, WORKERS,
 };
 use crate::values::{
-    family, id, needed_bytes, needed_id, number, policy, port, says_yes, seed, small, stands,
+    family, id, needed_bytes, needed_id, number, policy, port, proof, says_yes, seed, small, stands,
 };
 use clap::ArgMatches;
-use kad_base::{Bytes, Family, Id, NoMemory, Policy};
+use kad_base::{Bytes, Family, Id, NoMemory, Policy, Proof};
 use sha1::Sha1;
 use std::alloc::Global;
 use thiserror::Error;
@@ -115,12 +115,14 @@ pub struct ServeWords {
     pub table: bool,
 }
 
-/// The options of `node`: those of its lookups, whose target is 20 zero bytes and whose family is that of IPv4; how many
+/// The options of `node`: those of its lookups, whose target is 20 zero bytes and whose family is that of IPv4; the proof of
+/// its own identifier where one is given (and where `--own` names none, that identifier is the hash of the proof's key), how many
 /// receive calls it makes at least, after how many minutes it ends at the latest once its lookups are over (0: it doesn't
 /// end by time), and whether the routing table is printed at the end.
 #[derive(Clone, Copy, Debug, PartialEq, Eq)]
 pub struct NodeWords {
     pub look: LookWords,
+    pub proof: Option<Proof>,
     pub receives: u32,
     pub minutes: u32,
     pub table: bool,
@@ -280,8 +282,9 @@ static SERVE: [Choice; 12] = [
     WITH_TABLE,
 ];
 
-static NODE: [Choice; 14] = [
+static NODE: [Choice; 15] = [
     OWN,
+    PROOF,
     K,
     PATHS,
     ALPHA,
@@ -418,22 +421,30 @@ fn look(matches: &ArgMatches, goal: &Choice) -> LookWords
     look_at(
         matches,
         needed_id(matches, goal),
+        id(matches, &OWN),
         family(matches, &FAMILY),
         small(matches, &PER_ADDRESS),
     )
 }
 
-/// The options of a lookup with this target, in the network of this family, with so many contacts of one host on a path at
-/// most.
-fn look_at(matches: &ArgMatches, target: Id, family: Family, per_address: u8) -> LookWords
+/// The options of a lookup with this target and its own identifier, in the network of this family, with so many contacts of
+/// one host on a path at most.
+fn look_at(
+    matches: &ArgMatches,
+    target: Id,
+    own: Option<Id>,
+    family: Family,
+    per_address: u8,
+) -> LookWords
     requires { LookFits (taken_of matches.now) }
     ensures look { IsLookAt target (taken_of matches.now) result }
+    ensures own { result.own ≡ own }
     ensures family { result.family ≡ family }
     ensures per_address { result.per_address ≡ per_address }
 {
     LookWords {
         target,
-        own: id(matches, &OWN),
+        own,
         k: small(matches, &K),
         paths: small(matches, &PATHS),
         alpha: small(matches, &ALPHA),
@@ -488,6 +499,7 @@ fn put(alloc: Global, matches: &ArgMatches) -> Result<Command, NoMemory>
         look: look_at(
             matches,
             key_of(value.as_slice()),
+            id(matches, &OWN),
             family(matches, &FAMILY),
             small(matches, &PER_ADDRESS),
         ),
@@ -529,14 +541,38 @@ fn node(matches: &ArgMatches) -> Command
     ensures says { Says (taken_of matches.now) result }
     ensures word { word_of result ≡ node }
 {
+    let given = proof(matches, &PROOF);
+    let own = named_or_made(id(matches, &OWN), given);
     let per_address = small(matches, &PER_ADDRESS);
     let words = NodeWords {
-        look: look_at(matches, Id([0; 20]), Family::Four, per_address),
+        look: look_at(matches, Id([0; 20]), own, Family::Four, per_address),
+        proof: given,
         receives: number(matches, &NODE_RECEIVES),
         minutes: number(matches, &MINUTES),
         table: says_yes(matches, &WITH_TABLE),
     };
     Command::Node { words }
+}
+
+/// A node's own identifier: the one that is named, or if none is, the one that its proof makes.
+fn named_or_made(named: Option<Id>, proof: Option<Proof>) -> Option<Id>
+    ensures { result ≡ named_or_made named proof }
+{
+    match named {
+        Some(id) => Some(id),
+        None => match proof {
+            Some(proof) => Some(made_by(proof)),
+            None => None,
+        },
+    }
+}
+
+/// The identifier that the key of a proof makes: its SHA-1.
+#[tactic(auto, unfolding(kad_base::specs::Puzzles::hash))]
+fn made_by(proof: Proof) -> Id
+    ensures { result ≡ made_by proof }
+{
+    Id(Sha1::digest(&proof.key))
 }
 
 fn table(matches: &ArgMatches) -> Command

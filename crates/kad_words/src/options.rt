@@ -44,6 +44,8 @@ pub(crate) const VALUE: Choice = choice!("value", AnyBytes, Required);
 
 pub(crate) const OWN: Choice = choice!("own", Identifier, Optional);
 
+pub(crate) const PROOF: Choice = choice!("proof", KeyAndX, Optional);
+
 pub(crate) const K: Choice = choice!("k", 1, MAX_K, DEFAULT_K);
 
 pub(crate) const PATHS: Choice = choice!("paths", 1, MAX_PATHS, DEFAULT_PATHS);

@@ -5,12 +5,12 @@ ghost use Rattle.kad_words.specs.Listed.{entry_of};
 ghost use Rattle.kad_words.specs.Table.{c1_option, c2_option, PolicyOf};
 ghost use Rattle.kad_words.specs.Taken.{taken_of};
 ghost use Rattle.kad_words.specs.Fitting.{Fits, ends_below, has_default, is_below};
-ghost use Rattle.kad_words.specs.Values.{FamilyBy, IsGiven, MayBeGiven, MayNumberBy, NumberBy, YesBy};
+ghost use Rattle.kad_words.specs.Values.{FamilyBy, IsGiven, MayBeGiven, MayNumberBy, NumberBy, SpellsProofWord, YesBy};
 
-use crate::choice::{Choice, Kind, Need, read_yes};
+use crate::choice::{Choice, Kind, Need, read_proof, read_yes};
 use crate::options::{C1, C2};
 use clap::ArgMatches;
-use kad_base::{Bytes, Family, Id, NoMemory, Policy};
+use kad_base::{Bytes, Family, Id, NoMemory, Policy, Proof};
 use kad_text::read::{read_bytes, read_family, read_hex, read_id, read_number};
 use std::alloc::Global;
 
@@ -31,6 +31,15 @@ pub(crate) fn id(matches: &ArgMatches, choice: &Choice) -> Option<Id>
     ensures { MayBeGiven SpellsId (taken_of matches.now choice.now.name.now) result }
 {
     read_id(matches.get_str(choice.name)?)
+}
+
+/// The proof of an option that may be left out.
+pub(crate) fn proof(matches: &ArgMatches, choice: &Choice) -> Option<Proof>
+    requires fits { Fits (entry_of choice.now) (taken_of matches.now choice.now.name.now) }
+    requires kind { choice.now.kind ≡ Kind.KeyAndX }
+    ensures { MayBeGiven SpellsProofWord (taken_of matches.now choice.now.name.now) result }
+{
+    read_proof(matches.get_str(choice.name)?)
 }
 
 /// The bytes of an option that is required, however many there are.

@@ -1,5 +1,5 @@
 -- From a lookup, and what is said after it, to what the link's events tell. Nothing here names a command.
-use Rattle.std.proofs.Common.{◌≡◌, ◌≢◌, ℕ, ◌+◌, ◌≤◌, List, [], ◌∷◌, ◌++◌, length, Bool, true, false, Option, refl, sym, ap, subst, ◌∙◌}
+use Rattle.std.proofs.Common.{◌≡◌, ◌≢◌, ℕ, ◌+◌, ◌≤◌, List, [], ◌∷◌, ◌++◌, length, Bool, true, None, false, Option, refl, sym, ap, subst, ◌∙◌}
 use Rattle.std.proofs.lemmas.List.{append_assoc, append-nil}
 use Rattle.std.proofs.Math.Seq.{take-length}
 use Rattle.kad_base.specs.declared.types.Addr.{Addr}
@@ -55,16 +55,16 @@ record LastTried (events : List Event) : Type 0 where
   pub bytes : List ℕ
   pub is : events ≡ front ++ tried was_sent to bytes ∷ []
 
-last_tried : (seed : List ℕ) (place : ℕ) (a : Announcement) (rest : List Announcement) (events : List Event) → Announces true seed place (a ∷ rest) events → LastTried events
+last_tried : (seed : List ℕ) (place : ℕ) (a : Announcement) (rest : List Announcement) (events : List Event) → Announces true None seed place (a ∷ rest) events → LastTried events
 last_tried seed place a [] events h =
-    let e : Event = tried h.0 a.to (asking true (word seed place) a.ask) in
-    record { front = []; was_sent = h.0; to = a.to; bytes = asking true (word seed place) a.ask; is = h.2 ∙ ap (λ (l : List Event). e ∷ l) h.3 }
+    let e : Event = tried h.0 a.to (asking true None (word seed place) a.ask) in
+    record { front = []; was_sent = h.0; to = a.to; bytes = asking true None (word seed place) a.ask; is = h.2 ∙ ap (λ (l : List Event). e ∷ l) h.3 }
 last_tried seed place a (b ∷ rest) events h =
-    let e : Event = tried h.0 a.to (asking true (word seed place) a.ask) in
+    let e : Event = tried h.0 a.to (asking true None (word seed place) a.ask) in
     let later = last_tried seed (place + 1) b rest h.1 h.3 in
     record { front = e ∷ later.front; was_sent = later.was_sent; to = later.to; bytes = later.bytes; is = h.2 ∙ ap (λ (l : List Event). e ∷ l) later.is }
 
-no_stray_after : (g : Given) (seed : List ℕ) (place : ℕ) (all : List Announcement) (es fs : List Event) (n : ℕ) → Announces true seed place all fs → NeverEnds g n es → NeverEnds g n (es ++ fs)
+no_stray_after : (g : Given) (seed : List ℕ) (place : ℕ) (all : List Announcement) (es fs : List Event) (n : ℕ) → Announces true None seed place all fs → NeverEnds g n es → NeverEnds g n (es ++ fs)
 no_stray_after g seed place [] es fs n h never J ends =
     let same : es ++ fs ≡ es = ap (λ (l : List Event). es ++ l) h ∙ append-nil es in
     never J (subst (λ (l : List Event). EndsAtStray g J l n) same ends)
@@ -112,10 +112,10 @@ module _ (kind : AskKind) (look : LookWords) (spread : Bool) (owing : Owing) (ca
   -- all of it was said
   pub then_at : (before middle after : Option (List Event)) (f f' s s' : ℕ) (r : Reached) (n : ℕ)
       → Reaches kind look called source (record { before = before; after = middle; faults = f; faults' = f'; sends = s; sends' = s' }) r
-      → Grows middle after (Sends true r.words.seed r.words.place (owes r) n) → Grows before after (TellsThen kind look spread owing called r.outcome.journal r.outcome.peers n)
+      → Grows middle after (Sends true None r.words.seed r.words.place (owes r) n) → Grows before after (TellsThen kind look spread owing called r.outcome.journal r.outcome.peers n)
   then_at before middle after f f' s s' r n h sends =
       let o = r.outcome in
-      let all = in_terms (record { before = before; after = middle; faults = f; faults' = f'; sends = s; sends' = s' }) r (λ seed place owed_. Grows middle after (Sends true seed place owed_ n)) h sends in
+      let all = in_terms (record { before = before; after = middle; faults = f; faults' = f'; sends = s; sends' = s' }) r (λ seed place owed_. Grows middle after (Sends true None seed place owed_ n)) h sends in
       grows_then before middle after _ _ (TellsThen kind look spread owing called o.journal o.peers n) h.tells all
       (λ es fs t a. record { lookup = es; then = fs; whole = refl; tokens = o.tokens; items = o.items; tells = t; announces = a.0; counts = a.1 })
 
@@ -130,11 +130,11 @@ module _ (kind : AskKind) (look : LookWords) (spread : Bool) (owing : Owing) (ca
   -- a front of it was said
   pub announced_some : (before middle after : Option (List Event)) (f f' f'' s s' s'' : ℕ) (r : Reached)
       → Reaches kind look called source (record { before = before; after = middle; faults = f; faults' = f'; sends = s; sends' = s' }) r
-      → s' ≤ s'' → Grows middle after (AnnouncesSome true r.words.seed r.words.place (owes r))
+      → s' ≤ s'' → Grows middle after (AnnouncesSome true None r.words.seed r.words.place (owes r))
       → AnnouncedSome kind look spread owing called source (record { before = before; after = after; faults = f; faults' = f''; sends = s; sends' = s'' })
   announced_some before middle after f f' f'' s s' s'' r h later some_ =
       let o = r.outcome in
-      let all = in_terms (record { before = before; after = middle; faults = f; faults' = f'; sends = s; sends' = s' }) r (λ seed place owed_. Grows middle after (AnnouncesSome true seed place owed_)) h some_ in
+      let all = in_terms (record { before = before; after = middle; faults = f; faults' = f'; sends = s; sends' = s' }) r (λ seed place owed_. Grows middle after (AnnouncesSome true None seed place owed_)) h some_ in
       record {
         journal = o.journal;
         ran = h.ran;
@@ -144,8 +144,8 @@ module _ (kind : AskKind) (look : LookWords) (spread : Bool) (owing : Owing) (ca
       }
 
 -- all of it is a front of it
-pub all_some : (seed : List ℕ) (place : ℕ) (all : List Announcement) (n : ℕ) (a b : Option (List Event)) → Grows a b (Sends true seed place all n) → Grows a b (AnnouncesSome true seed place all)
-all_some seed place all n a b g = grows_weaker a b _ _ g (λ es h. (length all, subst (λ (l : List Announcement). Announces true seed place l es) (sym (take-length all)) h.0))
+pub all_some : (seed : List ℕ) (place : ℕ) (all : List Announcement) (n : ℕ) (a b : Option (List Event)) → Grows a b (Sends true None seed place all n) → Grows a b (AnnouncesSome true None seed place all)
+all_some seed place all n a b g = grows_weaker a b _ _ g (λ es h. (length all, subst (λ (l : List Announcement). Announces true None seed place l es) (sym (take-length all)) h.0))
 
 -- a lookup that has run out may be spread over its paths
 pub spreads_out : (kind : AskKind) (look : LookWords) (random : List ℕ) (source : Shown ℕ) (J : List Entry) → HasRunOut kind look random source J → IsSpread (book_of kind look random) J

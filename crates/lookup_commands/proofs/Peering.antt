@@ -1,5 +1,5 @@
 -- From a lookup for peers, and the announcements after it, to what the command promises.
-use Rattle.std.proofs.Common.{◌≡◌, ℕ, ◌≤◌, List, length, Option, Bool, true, ap, ◌∙◌}
+use Rattle.std.proofs.Common.{◌≡◌, ℕ, ◌≤◌, List, length, Option, Bool, true, None, ap, ◌∙◌}
 use Rattle.kad_base.specs.declared.types.Addr.{Addr}
 use Rattle.kad_base.specs.declared.types.Contact.{Contact}
 use Rattle.kad_base.specs.declared.types.Event.{Event}
@@ -25,7 +25,7 @@ printed_same peers mine found many asked_ failed_ turned_ announced text is e f 
 
 pub peers_at : (look : LookWords) (port : Option ℕ) (spread : Bool) (called : Called) (source : Shown ℕ) (before middle after : Option (List Event)) (f f' f'' s s' s'' : ℕ) (r : Reached) (n : ℕ) (text : List ℕ)
     → Reaches GetPeers look called source (record { before = before; after = middle; faults = f; faults' = f'; sends = s; sends' = s' }) r
-    → s' ≤ s'' → Grows middle after (Sends true r.words.seed r.words.place (owes GetPeers look spread (announcing_to look port) called source r) n)
+    → s' ≤ s'' → Grows middle after (Sends true None r.words.seed r.words.place (owes GetPeers look spread (announcing_to look port) called source r) n)
     → text ≡ printed_peers r.outcome.peers (length r.outcome.found) r.outcome.counts.asked r.outcome.counts.failed r.outcome.counts.turned n
     → PeersText look port spread called source (record { before = before; after = after; faults = f; faults' = f''; sends = s; sends' = s'' }) text
 peers_at look port spread called source before middle after f f' f'' s s' s'' r n text h later sends is =

@@ -1,5 +1,5 @@
 -- From a lookup of an item's key, and the puts after it, to what `put` promises.
-use Rattle.std.proofs.Common.{◌≡◌, ℕ, ◌≤◌, List, length, Option, Bool, true, Result, Ok, Err, IfOk, IfErr, ap, ◌∙◌}
+use Rattle.std.proofs.Common.{◌≡◌, ℕ, ◌≤◌, List, length, Option, Bool, true, None, Result, Ok, Err, IfOk, IfErr, ap, ◌∙◌}
 use Rattle.kad_base.specs.declared.types.Contact.{Contact}
 use Rattle.kad_base.specs.declared.types.Event.{Event}
 use Rattle.kad_base.specs.declared.types.Id.{Id}
@@ -29,7 +29,7 @@ printed_same key found many asked_ failed_ turned_ stored text is e = is ∙ ap 
 
 pub puts_at : (look : LookWords) (item : List ℕ) (spread : Bool) (called : Called) (source : Shown ℕ) (before middle after : Option (List Event)) (f f' f'' s s' s'' : ℕ) (r : Reached) (n : ℕ) (text : List ℕ)
     → Reaches GetItem look called source (record { before = before; after = middle; faults = f; faults' = f'; sends = s; sends' = s' }) r
-    → s' ≤ s'' → Grows middle after (Sends true r.words.seed r.words.place (owes GetItem look spread (putting_to item) called source r) n)
+    → s' ≤ s'' → Grows middle after (Sends true None r.words.seed r.words.place (owes GetItem look spread (putting_to item) called source r) n)
     → text ≡ printed_stored look.target (length r.outcome.found) r.outcome.counts.asked r.outcome.counts.failed r.outcome.counts.turned n
     → PutText look item spread called source (record { before = before; after = after; faults = f; faults' = f''; sends = s; sends' = s'' }) text
 puts_at look item spread called source before middle after f f' f'' s s' s'' r n text h later sends is =

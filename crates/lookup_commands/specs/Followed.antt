@@ -1,6 +1,6 @@
 -- What the link's events tell of a command that looks up and then says something to each contact that is followed up and gave
 -- a token: first a whole lookup, and then what is said.
-use Rattle.std.specs.Prelude.{◌≡◌, ◌≤◌, ℕ, ◌+◌, List, ◌++◌, length, Bool, true, false}
+use Rattle.std.specs.Prelude.{◌≡◌, ◌≤◌, ℕ, ◌+◌, List, ◌++◌, length, Bool, true, None, false}
 use Rattle.kad_base.specs.declared.types.Id.{Id}
 use Rattle.kad_base.specs.declared.types.Addr.{Addr}
 use Rattle.kad_base.specs.declared.types.Contact.{Contact}
@@ -54,7 +54,7 @@ pub record TellsThen (kind : AskKind) (look : LookWords) (spread : Bool) (owing 
   pub tokens : List Token
   pub items : List Item
   pub tells : TellsAll (scheduling_by called.slow) (lookup_of kind look called) J peers tokens items lookup
-  pub announces : Announces true called.random (next_place called.random J) (owed_by kind look spread owing called.random J tokens) then
+  pub announces : Announces true None called.random (next_place called.random J) (owed_by kind look spread owing called.random J tokens) then
   pub counts : sent ≡ sent_in then
 
 -- first a whole lookup, and then a front of what is owed
@@ -66,7 +66,7 @@ pub record TellsSomeThen (kind : AskKind) (look : LookWords) (spread : Bool) (ow
   pub tokens : List Token
   pub items : List Item
   pub tells : TellsAll (scheduling_by called.slow) (lookup_of kind look called) J peers tokens items lookup
-  pub announces : AnnouncesSome true called.random (next_place called.random J) (owed_by kind look spread owing called.random J tokens) then
+  pub announces : AnnouncesSome true None called.random (next_place called.random J) (owed_by kind look spread owing called.random J tokens) then
 
 -- a lookup that has run out, after which not all that is owed was said
 pub record AnnouncedSome (kind : AskKind) (look : LookWords) (spread : Bool) (owing : Owing) (called : Called) (source : Shown ℕ) (link : Shown Event) : Type 0 where

@@ -1,6 +1,6 @@
 //! Follow-ups: what is said after a lookup, and to whom: the contacts of its result, or spread over its paths the k closest of
 //! each.
-ghost use Rattle.std.specs.Prelude.{◌≡◌, ◌≤◌, ◌<◌, ◌^◌, true, IfOk, OnErr};
+ghost use Rattle.std.specs.Prelude.{◌≡◌, ◌≤◌, ◌<◌, ◌^◌, true, None, IfOk, OnErr};
 ghost use Rattle.kad_base.specs.Outside.{Grows};
 ghost use Rattle.follow_ups.specs.Announced.{asks_of, MaySay, announcements, Announces, AnnouncesSome, sent_in};
 ghost use Rattle.lookup_commands.specs.Followed.{chosen};
@@ -29,11 +29,11 @@ pub fn follow_up<L: Link>(
     ensures ok { let all = announcements (asks_of said.now)
         (chosen spread look.now outcome.now) outcome.now.tokens in
         IfOk result (λ sent. Grows (L.told link.old) (L.told link.new)
-        (λ es. Announces true words.old.seed words.old.place all es × (sent ≡ sent_in es))) }
+        (λ es. Announces true None words.old.seed words.old.place all es × (sent ≡ sent_in es))) }
     ensures err { let all = announcements (asks_of said.now)
         (chosen spread look.now outcome.now) outcome.now.tokens in
         OnErr result (Grows (L.told link.old) (L.told link.new)
-        (AnnouncesSome true words.old.seed words.old.place all)) }
+        (AnnouncesSome true None words.old.seed words.old.place all)) }
     ensures recv_faults { L.recv_faults link.new ≡ L.recv_faults link.old }
     ensures send_faults { L.send_faults link.old ≤ L.send_faults link.new }
     ensures kept { L.kept link.new ≡ L.kept link.old }
@@ -46,11 +46,21 @@ pub fn follow_up<L: Link>(
             words,
             said,
             true,
+            None,
             outcome.found.as_slice(),
             tokens,
         );
     }
     let journal = outcome.journal.as_slice();
     let contacts = spread_over(alloc, &look.target, look.k, look.paths, journal)?;
-    announce(alloc, link, words, said, true, contacts.as_slice(), tokens)
+    announce(
+        alloc,
+        link,
+        words,
+        said,
+        true,
+        None,
+        contacts.as_slice(),
+        tokens,
+    )
 }

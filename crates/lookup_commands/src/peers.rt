@@ -1,6 +1,6 @@
 //! The command `peers`: looks for peers of a key, makes the text of those that the answers named, and if it is told a
 //! port announces it to the contacts of the result, or spread over the paths to the k closest of each.
-ghost use Rattle.std.specs.Prelude.{◌≡◌, ◌≤◌, ◌<◌, ◌⊎◌, ◌^◌, true, IfOk, IfErr, OnErr, IsErrOf};
+ghost use Rattle.std.specs.Prelude.{◌≡◌, ◌≤◌, ◌<◌, ◌⊎◌, ◌^◌, true, None, IfOk, IfErr, OnErr, IsErrOf};
 ghost use Rattle.kad_base.specs.Failing.{FailsLast};
 ghost use Rattle.kad_base.specs.Outside.{Grows};
 ghost use Rattle.lookup_core.specs.declared.quest.AskKind.TheVariants.{GetPeers};
@@ -43,11 +43,11 @@ fn announce_told<L: Link>(
     ensures ok { let all = owed port own look.now.target
         (chosen spread look.now outcome.now) outcome.now.tokens in
         IfOk result (λ sent. Grows (L.told link.old) (L.told link.new)
-        (λ es. Announces true words.old.seed words.old.place all es × (sent ≡ sent_in es))) }
+        (λ es. Announces true None words.old.seed words.old.place all es × (sent ≡ sent_in es))) }
     ensures err { let all = owed port own look.now.target
         (chosen spread look.now outcome.now) outcome.now.tokens in
         OnErr result (Grows (L.told link.old) (L.told link.new)
-        (AnnouncesSome true words.old.seed words.old.place all)) }
+        (AnnouncesSome true None words.old.seed words.old.place all)) }
     ensures send_faults { L.send_faults link.old ≤ L.send_faults link.new }
     ensures recv_faults { L.recv_faults link.new ≡ L.recv_faults link.old }
     ensures kept { L.kept link.new ≡ L.kept link.old }

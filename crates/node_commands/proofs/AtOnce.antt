@@ -1,5 +1,5 @@
 -- A node that several workers serve, from the first look at the link's clock to its end.
-use Rattle.std.proofs.Common.{◌≡◌, ℕ, List, [], ◌∷◌, ◌++◌, Option, inl, refl, sym, ap, subst, ◌∙◌}
+use Rattle.std.proofs.Common.{◌≡◌, ℕ, List, [], ◌∷◌, ◌++◌, Option, inl, refl, sym, ap, subst, ◌∙◌, None}
 use Rattle.std.proofs.lemmas.List.{append-nil}
 use Rattle.kad_base.specs.declared.types.Event.{Event}
 use Rattle.kad_base.specs.declared.types.Event.TheVariants.{Now}
@@ -29,11 +29,11 @@ happens_then a b c began P Q g h f = record {
 }
 
 abbrev setting_by : ServeWords → List Report → Id → TokensState → ServeSetting
-setting_by service proofs own tokens = record { own = own; k = service.k; policy = service.policy; proofs = proofs; tokens = tokens; sealed = service.sealed }
+setting_by service proofs own tokens = record { own = own; k = service.k; policy = service.policy; proofs = proofs; tokens = tokens; sealed = service.sealed; proof = None }
 
 -- what the workers answer by, as the code has it
 pub setting_is : (service : ServeWords) (random : List ℕ) (proofs : List Report) (own : Id) (tokens : TokensState) → own ≡ own_of service.own random → tokens ≡ tokens_by random 0 service.per_address
-    → record { own = own; k = service.k; policy = service.policy; proofs = proofs; tokens = tokens; sealed = service.sealed } ≡ setting_of service random proofs
+    → record { own = own; k = service.k; policy = service.policy; proofs = proofs; tokens = tokens; sealed = service.sealed; proof = None } ≡ setting_of service random proofs
 setting_is service random proofs own tokens mine drawn =
     ap (λ (id : Id). setting_by service proofs id tokens) mine ∙ ap (λ (t : TokensState). setting_by service proofs (own_of service.own random) t) drawn
 

@@ -84,10 +84,10 @@ err_is r x y e f = subst (λ z. r ≡ Err z) f e
 
 -- and it had called the link
 pub four_late : EndsBefore 4 → ⊥
-four_late e = elim e [ inl a ↦ absurd cc | inr e ↦ elim e [ inl a ↦ absurd cc | inr e ↦ elim e [ inl a ↦ absurd cc | inr e ↦ elim e [ inl a ↦ absurd cc | inr e ↦ elim e [ inl a ↦ absurd cc | inr e ↦ elim e [ inl a ↦ absurd cc | inr e ↦ elim e [ inl a ↦ absurd cc | inr a ↦ absurd cc ] ] ] ] ] ] ]
+four_late e = elim e [ inl a ↦ absurd cc | inr e ↦ elim e [ inl a ↦ absurd cc | inr e ↦ elim e [ inl a ↦ absurd cc | inr e ↦ elim e [ inl a ↦ absurd cc | inr e ↦ elim e [ inl a ↦ absurd cc | inr e ↦ elim e [ inl a ↦ absurd cc | inr e ↦ elim e [ inl a ↦ absurd cc | inr e ↦ elim e [ inl a ↦ absurd cc | inr a ↦ absurd cc ] ] ] ] ] ] ] ]
 
 pub nine_late : EndsBefore 9 → ⊥
-nine_late e = elim e [ inl a ↦ absurd cc | inr e ↦ elim e [ inl a ↦ absurd cc | inr e ↦ elim e [ inl a ↦ absurd cc | inr e ↦ elim e [ inl a ↦ absurd cc | inr e ↦ elim e [ inl a ↦ absurd cc | inr e ↦ elim e [ inl a ↦ absurd cc | inr e ↦ elim e [ inl a ↦ absurd cc | inr a ↦ absurd cc ] ] ] ] ] ] ]
+nine_late e = elim e [ inl a ↦ absurd cc | inr e ↦ elim e [ inl a ↦ absurd cc | inr e ↦ elim e [ inl a ↦ absurd cc | inr e ↦ elim e [ inl a ↦ absurd cc | inr e ↦ elim e [ inl a ↦ absurd cc | inr e ↦ elim e [ inl a ↦ absurd cc | inr e ↦ elim e [ inl a ↦ absurd cc | inr e ↦ elim e [ inl a ↦ absurd cc | inr a ↦ absurd cc ] ] ] ] ] ] ] ]
 
 -- how it ends where its input gave no reports
 pub unread_cause : (begun : Type 0) (source : Shown ℕ) (link : Shown Event) (status : Status) → ReportsCause source status → ReadingCause IsBadContactLine (HostCause begun link) source status

@@ -2,7 +2,7 @@
 -- answered by the reply that a node owes it (BEP 5), as the datagrams before had left the node, and that nothing else was
 -- sent. If several workers answer, these are batches, which they answered at once. Where the words ask for it, the text also has
 -- the routing table that the calls left.
-use Rattle.std.specs.Prelude.{◌≡◌, ℕ, ◌≤◌, List, ◌∷◌, map}
+use Rattle.std.specs.Prelude.{◌≡◌, ℕ, ◌≤◌, List, ◌∷◌, map, None}
 use Rattle.kad_base.specs.declared.types.Family.TheVariants.{Four}
 use Rattle.kad_base.specs.declared.types.Contact.{Contact}
 use Rattle.kad_base.specs.declared.types.Event.{Event}
@@ -59,6 +59,7 @@ setting_of service random proofs = record {
   proofs = proofs;
   tokens = tokens_by random 0 service.per_address;
   sealed = service.sealed;
+  proof = None;
 }
 
 -- ---- the command

@@ -2,11 +2,12 @@
 -- was gathered and sent for each, which the link's events tell together, while a node answered what was for none of them
 -- (S/Kademlia, 2007, section 4.4, over Kademlia, 2002, section 2.3; BEP 5; BEP 44); and what they are if they ended early. The
 -- lines that name jobs are this project's own.
-use Rattle.std.specs.Prelude.{◌≡◌, ◌≢◌, ◌⊎◌, ◌<◌, ℕ, List, [], ◌∷◌, ◌++◌, Bool, true, map}
+use Rattle.std.specs.Prelude.{◌≡◌, ◌≢◌, ◌⊎◌, ◌<◌, ℕ, List, [], ◌∷◌, ◌++◌, Bool, true, map, Option}
 use Rattle.std.specs.List.{AllZip, IsDistinct}
 use Rattle.kad_base.specs.declared.types.Contact.{Contact}
 use Rattle.kad_base.specs.declared.types.Event.{Event}
 use Rattle.kad_base.specs.declared.types.Family.TheVariants.{Four}
+use Rattle.kad_base.specs.declared.types.Proof.{Proof}
 use Rattle.kad_base.specs.declared.types.Report.{Report}
 use Rattle.kad_base.specs.Contacts.{same, among}
 use Rattle.kad_base.specs.Limits.{max_strays}
@@ -24,14 +25,14 @@ use Rattle.claim_book.specs.RunOut.{RunOut}
 use Rattle.node_serve.specs.declared.lasting.Lasting.{Lasting}
 use Rattle.node_serve.specs.declared.setting.ServeSetting.{ServeSetting}
 use Rattle.node_tokens.specs.Tokens.{tokens_by}
-use Rattle.look_many.specs.Many.{Reading, ManyTellSoFar, EndsAtForeign, Shown as Seen}
+use Rattle.lookup_crowd.specs.Many.{Reading, ManyTellSoFar, EndsAtForeign, Shown as Seen}
+use Rattle.lookup_crowd.specs.declared.due.FollowUp.{FollowUp}
+use Rattle.lookup_crowd.specs.declared.seeker.ManyFault.{ManyFault}
+use Rattle.lookup_crowd.specs.declared.seeker.ManyFault.TheVariants as fault
 use Rattle.look_many.specs.ManyLooked.{setting_for, all_read, frame_for, journals_of, IsJournalFor, ManyLooked, ManyStopped, CountsUnsent}
-use Rattle.look_many.specs.declared.follow.FollowUp.{FollowUp}
 use Rattle.look_many.specs.declared.found.Many.{Many}
 use Rattle.look_many.specs.declared.found.ManySetting.{ManySetting}
 use Rattle.look_many.specs.declared.job.Job.{Job}
-use Rattle.look_many.specs.declared.seeker.ManyFault.{ManyFault}
-use Rattle.look_many.specs.declared.seeker.ManyFault.TheVariants as fault
 use Rattle.kad_words.specs.declared.command.LookWords.{LookWords}
 use Rattle.kad_words.specs.declared.command.NodeWords.{NodeWords}
 use Rattle.command_base.specs.declared.status.Status.{Status}
@@ -42,9 +43,10 @@ use Rattle.command_base.specs.Input.{ReadsAll, Admits, Keeps}
 use Rattle.kad_text.specs.Lines.{lines}
 use Rattle.node_commands.specs.JobTexts.{AreJobTexts, AreTextsOf}
 use Rattle.node_commands.specs.Printed.{printed_served, WithTable}
-use Rattle.command_base.specs.Promise.{Aim, Promise, ReadingCause, reading}
+use Rattle.command_base.specs.Promise.{Aim, Promise, ReadingCause, vouched}
 use Rattle.command_base.specs.Shown.{Shown, IsTold, HasFailed}
 use Rattle.command_base.specs.Started.{own_of, drawn_of, IsInRange, seen_call}
+use Rattle.command_base.specs.Vouched.{Vouches}
 
 -- ---- its setting
 
@@ -52,15 +54,16 @@ use Rattle.command_base.specs.Started.{own_of, drawn_of, IsInRange, seen_call}
 abbrev pub lasting_of : NodeWords → Lasting
 lasting_of words = record { receives = words.receives; minutes = words.minutes }
 
--- what the node answers by: the epochs of its tokens count from the moment 0
-abbrev pub server_of : LookWords → List ℕ → List Report → ServeSetting
-server_of look random proofs = record {
+-- what the node answers by: the epochs of its tokens count from the moment 0; and the proof that its queries bring
+abbrev pub server_of : LookWords → Option Proof → List ℕ → List Report → ServeSetting
+server_of look proof random proofs = record {
   own = own_of look.own random;
   k = look.k;
   policy = look.policy;
   proofs = proofs;
   tokens = tokens_by random 0 look.per_address;
   sealed = look.sealed;
+  proof = proof;
 }
 
 -- how each lookup goes
@@ -137,42 +140,42 @@ pub record HasRunOutFor (server : ServeSetting) (setting : ManySetting) (table :
   pub have_answered : (c : Contact) → among (result_of (setting_for server setting job) journal) c ≡ true → among (answered journal) c ≡ true
 
 -- what several lookups did, from this table on to that one, while the node answered
-abbrev pub LooksFrom : LookWords → Lasting → Called → List Job → TableState → List Report → Shown Event → TableState → WordsState → Many → Type 0
-LooksFrom look lasting called jobs table proofs link after left many =
-    ManyLooked called.accepts called.tags (server_of look called.random proofs) (each_of look) jobs lasting table after (drawn_of called.random) left link.before link.after many
+abbrev pub LooksFrom : LookWords → Lasting → Option Proof → Called → List Job → TableState → List Report → Shown Event → TableState → WordsState → Many → Type 0
+LooksFrom look lasting proof called jobs table proofs link after left many =
+    ManyLooked called.accepts called.tags (server_of look proof called.random proofs) (each_of look) jobs lasting table after (drawn_of called.random) left link.before link.after many
 
 -- the same if they ended early
-abbrev pub StopsFrom : LookWords → Lasting → Called → List Job → TableState → List Report → Shown Event → TableState → WordsState → ManyFault → Type 0
-StopsFrom look lasting called jobs table proofs link after left by =
-    ManyStopped called.accepts called.tags (server_of look called.random proofs) (each_of look) jobs lasting table after (drawn_of called.random) left link.before link.after by
+abbrev pub StopsFrom : LookWords → Lasting → Option Proof → Called → List Job → TableState → List Report → Shown Event → TableState → WordsState → ManyFault → Type 0
+StopsFrom look lasting proof called jobs table proofs link after left by =
+    ManyStopped called.accepts called.tags (server_of look proof called.random proofs) (each_of look) jobs lasting table after (drawn_of called.random) left link.before link.after by
 
-abbrev pub HasLookedTo : TableState → LookWords → Lasting → Called → List Job → TableState → List Report → Shown Event → Many → Type 0
-HasLookedTo after look lasting called jobs table proofs link many = (left : WordsState) × LooksFrom look lasting called jobs table proofs link after left many
+abbrev pub HasLookedTo : TableState → LookWords → Lasting → Option Proof → Called → List Job → TableState → List Report → Shown Event → Many → Type 0
+HasLookedTo after look lasting proof called jobs table proofs link many = (left : WordsState) × LooksFrom look lasting proof called jobs table proofs link after left many
 
-abbrev pub HasLooked : LookWords → Lasting → Called → List Job → TableState → List Report → Shown Event → Many → Type 0
-HasLooked look lasting called jobs table proofs link many = (after : TableState) × (left : WordsState) × LooksFrom look lasting called jobs table proofs link after left many
+abbrev pub HasLooked : LookWords → Lasting → Option Proof → Called → List Job → TableState → List Report → Shown Event → Many → Type 0
+HasLooked look lasting proof called jobs table proofs link many = (after : TableState) × (left : WordsState) × LooksFrom look lasting proof called jobs table proofs link after left many
 
-abbrev pub HasStopped : LookWords → Lasting → Called → List Job → TableState → List Report → Shown Event → ManyFault → Type 0
-HasStopped look lasting called jobs table proofs link by = (after : TableState) × (left : WordsState) × StopsFrom look lasting called jobs table proofs link after left by
+abbrev pub HasStopped : LookWords → Lasting → Option Proof → Called → List Job → TableState → List Report → Shown Event → ManyFault → Type 0
+HasStopped look lasting proof called jobs table proofs link by = (after : TableState) × (left : WordsState) × StopsFrom look lasting proof called jobs table proofs link after left by
 
 -- all lookups have run out, and the node has made as many receives as are wanted, or its end by time has come; over every link,
 -- who was lost because it would not send, it counted
-pub record NodeRan (look : LookWords) (lasting : Lasting) (called : Called) (source : Shown ℕ) (link : Shown Event) : Type 0 where
+pub record NodeRan (look : LookWords) (lasting : Lasting) (proof : Option Proof) (called : Called) (source : Shown ℕ) (link : Shown Event) : Type 0 where
   pub jobs : List Job
   pub table : TableState
   pub proofs : List Report
   pub starts : Starts look called.random source jobs table proofs
   pub many : Many
-  pub looked : HasLooked look lasting called jobs table proofs link many
+  pub looked : HasLooked look lasting proof called jobs table proofs link many
   pub refused : CountsUnsent (journals_of many.outcomes) link.sends link.sends'
 
 -- it ended early by a fault
-pub record NodeEnds (look : LookWords) (lasting : Lasting) (called : Called) (source : Shown ℕ) (link : Shown Event) (by : ManyFault) : Type 0 where
+pub record NodeEnds (look : LookWords) (lasting : Lasting) (proof : Option Proof) (called : Called) (source : Shown ℕ) (link : Shown Event) (by : ManyFault) : Type 0 where
   pub jobs : List Job
   pub table : TableState
   pub proofs : List Report
   pub starts : Starts look called.random source jobs table proofs
-  pub stopped : HasStopped look lasting called jobs table proofs link by
+  pub stopped : HasStopped look lasting proof called jobs table proofs link by
 
 -- ---- what it promises
 
@@ -180,75 +183,80 @@ pub record NodeEnds (look : LookWords) (lasting : Lasting) (called : Called) (so
 -- which has run out, and by what its answers gave and the queries that were sent behind it (both as the events tell, if they tell
 -- all); the item of a `get` has the key for its SHA-1 over a link that tells nothing too. Behind them it has how many datagrams came,
 -- and how many replies were sent; and, where it is wanted, the saved text of the table that the lookups and the queries left.
-pub record NodeText (look : LookWords) (lasting : Lasting) (with_table : Bool) (called : Called) (source : Shown ℕ) (link : Shown Event) (text : List ℕ) : Type 0 where
-  pub ran : NodeRan look lasting called source link
+pub record NodeText (look : LookWords) (lasting : Lasting) (proof : Option Proof) (with_table : Bool) (called : Called) (source : Shown ℕ) (link : Shown Event) (text : List ℕ) : Type 0 where
+  pub ran : NodeRan look lasting proof called source link
   pub journals : List (List Entry)
   pub journals_are : journals ≡ journals_of ran.many.outcomes
-  pub each : AllZip (HasRunOutFor (server_of look called.random ran.proofs) (each_of look) ran.table) ran.jobs journals
+  pub each : AllZip (HasRunOutFor (server_of look proof called.random ran.proofs) (each_of look) ran.table) ran.jobs journals
   pub texts : List ℕ
-  pub texts_are : AreJobTexts (server_of look called.random ran.proofs) (each_of look) ran.jobs ran.many.outcomes texts
+  pub texts_are : AreJobTexts (server_of look proof called.random ran.proofs) (each_of look) ran.jobs ran.many.outcomes texts
   pub text_is : WithTable with_table ran.looked.0 (texts ++ printed_served ran.many.received ran.many.replied) text
 
 -- one that gave no text: it ended early, or it was whole
-abbrev pub NodeBegun : LookWords → Lasting → Called → Shown ℕ → Shown Event → Type 0
-NodeBegun look lasting called source link = ((by : ManyFault) × NodeEnds look lasting called source link by) ⊎ NodeRan look lasting called source link
+abbrev pub NodeBegun : LookWords → Lasting → Option Proof → Called → Shown ℕ → Shown Event → Type 0
+NodeBegun look lasting proof called source link = ((by : ManyFault) × NodeEnds look lasting proof called source link by) ⊎ NodeRan look lasting proof called source link
 
 -- the events tell journals of these jobs so far, and these queries behind their lookups, by which the node has these proofs
-pub record TellsJobs (look : LookWords) (lasting : Lasting) (called : Called) (events : List Event) : Type 0 where
+pub record TellsJobs (look : LookWords) (lasting : Lasting) (proof : Option Proof) (called : Called) (events : List Event) : Type 0 where
   pub jobs : List Job
   pub proofs : List Report
   pub journals : List (List Entry)
   pub follows : List FollowUp
   pub read : Reading
   pub end : Seen
-  pub so_far : ManyTellSoFar (frame_for called.accepts called.tags (server_of look called.random proofs) (drawn_of called.random) lasting follows) (all_read (server_of look called.random proofs) (each_of look) jobs journals) events read end
+  pub so_far : ManyTellSoFar (frame_for called.accepts called.tags (server_of look proof called.random proofs) (drawn_of called.random) lasting follows) (all_read (server_of look proof called.random proofs) (each_of look) jobs journals) events read end
 
 -- or they end with the last datagram for no lookup that is taken while a query is open
-pub record EndsJobs (look : LookWords) (lasting : Lasting) (called : Called) (events : List Event) : Type 0 where
+pub record EndsJobs (look : LookWords) (lasting : Lasting) (proof : Option Proof) (called : Called) (events : List Event) : Type 0 where
   pub jobs : List Job
   pub proofs : List Report
   pub journals : List (List Entry)
   pub follows : List FollowUp
   pub read : Reading
-  pub ends : EndsAtForeign (frame_for called.accepts called.tags (server_of look called.random proofs) (drawn_of called.random) lasting follows) (all_read (server_of look called.random proofs) (each_of look) jobs journals) events read max_strays
+  pub ends : EndsAtForeign (frame_for called.accepts called.tags (server_of look proof called.random proofs) (drawn_of called.random) lasting follows) (all_read (server_of look proof called.random proofs) (each_of look) jobs journals) events read max_strays
 
 -- by some jobs, proofs, journals and follow-ups they end so, and by none they tell on
-abbrev pub ShowsLastForeign : LookWords → Lasting → Called → Shown Event → Type 0
-ShowsLastForeign look lasting called link = Grows link.before link.after (λ events. EndsJobs look lasting called events × (¬ TellsJobs look lasting called events))
+abbrev pub ShowsLastForeign : LookWords → Lasting → Option Proof → Called → Shown Event → Type 0
+ShowsLastForeign look lasting proof called link = Grows link.before link.after (λ events. EndsJobs look lasting proof called events × (¬ TellsJobs look lasting proof called events))
 
 -- why it ended after its input
-abbrev pub NodeCause : LookWords → Lasting → Called → Shown ℕ → Shown Event → Status → Type 0
-NodeCause look lasting called source link LinkFault = HasFailed link × NodeEnds look lasting called source link fault.LinkFault
-NodeCause look lasting called source link Strays = NodeEnds look lasting called source link fault.Strays
-NodeCause look lasting called source link NoSeeds = GivesNobody look called.random source
-NodeCause look lasting called source link other = ⊥
+abbrev pub NodeCause : LookWords → Lasting → Option Proof → Called → Shown ℕ → Shown Event → Status → Type 0
+NodeCause look lasting proof called source link LinkFault = HasFailed link × NodeEnds look lasting proof called source link fault.LinkFault
+NodeCause look lasting proof called source link Strays = NodeEnds look lasting proof called source link fault.Strays
+NodeCause look lasting proof called source link NoSeeds = GivesNobody look called.random source
+NodeCause look lasting proof called source link other = ⊥
 
 -- what it needs: a good input, with a node to begin with if it names a job, no failure and few strays
-pub record NodeGoesWell (look : LookWords) (lasting : Lasting) (called : Called) (source : Shown ℕ) (link : Shown Event) : Type 0 where
+pub record NodeGoesWell (look : LookWords) (lasting : Lasting) (proof : Option Proof) (called : Called) (source : Shown ℕ) (link : Shown Event) : Type 0 where
   pub told : IsTold source
   pub reads : ¬ HasFailed source
   pub hears : ¬ HasFailed link
-  pub few_strays : ¬ NodeEnds look lasting called source link fault.Strays
+  pub few_strays : ¬ NodeEnds look lasting proof called source link fault.Strays
   pub start : GivesStart look called.random source
 
-abbrev pub node_aim : LookWords → Lasting → Bool → Aim
-node_aim look lasting with_table = record {
+abbrev pub node_aim : LookWords → Lasting → Option Proof → Bool → Aim
+node_aim look lasting proof with_table = record {
   links = true;
   good = AreGoodJobs;
   bad = IsBadJob;
   unsound = λ source. ⊥;
   no_seeds = λ called source. GivesNobody look called.random source;
-  last_stray = λ called link. ShowsLastForeign look lasting called link;
-  strays = λ called source link. NodeEnds look lasting called source link fault.Strays;
-  few = λ called source link. NodeEnds look lasting called source link fault.LinkFault;
+  last_stray = λ called link. ShowsLastForeign look lasting proof called link;
+  strays = λ called source link. NodeEnds look lasting proof called source link fault.Strays;
+  few = λ called source link. NodeEnds look lasting proof called source link fault.LinkFault;
   ends = 4 ∷ 7 ∷ 8 ∷ [];
   ranges = IsInRange look;
-  text = λ called source link written. NodeText look lasting with_table called source link written;
+  text = λ called source link written. NodeText look lasting proof with_table called source link written;
   started = λ called source. GivesStart look called.random source;
-  begun = λ called source link. NodeBegun look lasting called source link;
-  cause = λ called source link status. NodeCause look lasting called source link status;
-  needs = λ called source link. NodeGoesWell look lasting called source link;
+  begun = λ called source link. NodeBegun look lasting proof called source link;
+  cause = λ called source link status. NodeCause look lasting proof called source link status;
+  needs = λ called source link. NodeGoesWell look lasting proof called source link;
 }
 
+-- why a node ended whose proof is good
+abbrev pub Begun : NodeWords → Called → Shown ℕ → Shown Event → Status → Type 0
+Begun words called source link status = ReadingCause IsBadJob (NodeCause words.look (lasting_of words) words.proof called source link) source status
+
+-- what it does first of all is to look whether the proof that it was given, if any, is one of its own identifier
 abbrev pub node_promise : NodeWords → Promise
-node_promise words = reading (node_aim words.look (lasting_of words) words.table)
+node_promise words = vouched (λ random. Vouches words.look words.proof random) (node_aim words.look (lasting_of words) words.proof words.table)

@@ -9,12 +9,13 @@ ghost use Rattle.kad_base.specs.Limits.{max_lookups};
 ghost use Rattle.look_many.specs.Job.{MaySayOf};
 ghost use Rattle.look_many.specs.ManyLooked.{CountsUnsent, journals_of};
 ghost use Rattle.command_base.specs.Called.{called_with};
-ghost use Rattle.node_commands.specs.Several.{HasLookedTo, HasStopped, IsPrinted, Names, NamesCause, NodeBegun, NodeText, Starts, StartsCause, lasting_of, node_promise};
+ghost use Rattle.node_commands.specs.Several.{Begun, HasLookedTo, HasStopped, IsPrinted, Names, NamesCause, NodeBegun, NodeText, Starts, StartsCause, lasting_of, node_promise};
 ghost use Rattle.node_commands.specs.Printed.{WithTable};
 ghost use Rattle.command_base.specs.Endings.{EndsUnasked, number_of};
 ghost use Rattle.command_base.specs.Input.{ReadsAtMost};
 ghost use Rattle.command_base.specs.Shown.{shown, shown_link, HasFailed};
 ghost use Rattle.command_base.specs.Started.{own_of, IsInRange};
+ghost use Rattle.command_base.specs.Vouched.{Vouches};
 
 use crate::job_text::print_each;
 use crate::jobs::{NodeInput, read_input};
@@ -22,10 +23,11 @@ use crate::printed::{add_table, served_line};
 use command_base::bootstrap::{FIRST_TX, own_id, table_of};
 use command_base::input::{admitted, kept, read_whole};
 use command_base::printed::add_line;
+use command_base::vouch::is_vouched;
 use command_base::{Call, Status};
 use contact_table::Table;
 use id_puzzles::Words;
-use kad_base::{Bytes, Check, Contact, Family, Id, Link, NoMemory, Reports, Source};
+use kad_base::{Bytes, Check, Contact, Family, Id, Link, NoMemory, Proof, Reports, Source};
 use kad_text::lines::LinesFault;
 use kad_words::{LookWords, NodeWords};
 use look_many::{Job, Jobs, Many, ManyFault, ManySetting, look_many};
@@ -127,6 +129,7 @@ fn look_all<R: Threads + Wait + Sync, L: Link, C: PacedCheck + Sync, G: Seal + S
     alloc: Global,
     look: &LookWords,
     lasting: Lasting,
+    proof: Option<Proof>,
     own: Id,
     table: Table,
     proofs: Reports,
@@ -140,11 +143,11 @@ fn look_all<R: Threads + Wait + Sync, L: Link, C: PacedCheck + Sync, G: Seal + S
     requires carried { AllByRecursion MaySayOf jobs.now }
     requires usable { All (IsUsable own) (contacts_of table) }
     requires proofs { All (Passes look.now.policy) proofs }
-    ensures ok { IfOk result (λ looked. HasLookedTo looked.table look.now lasting
+    ensures ok { IfOk result (λ looked. HasLookedTo looked.table look.now lasting proof
         (called_with call.now.random (C.slow call.now.check.now) (G.accepted call.now.seal.now)
         (G.tag_of call.now.seal.now)) jobs.now table proofs
         (shown_link L.told L.recv_faults L.send_faults link.old link.new) looked.many) }
-    ensures stopped { IfErr result (HasStopped look.now lasting
+    ensures stopped { IfErr result (HasStopped look.now lasting proof
         (called_with call.now.random (C.slow call.now.check.now) (G.accepted call.now.seal.now)
         (G.tag_of call.now.seal.now)) jobs.now table proofs
         (shown_link L.told L.recv_faults L.send_faults link.old link.new)) }
@@ -165,6 +168,7 @@ fn look_all<R: Threads + Wait + Sync, L: Link, C: PacedCheck + Sync, G: Seal + S
         proofs,
         tokens: Tokens::limited(&call.random, 0, look.per_address as usize),
         sealed: look.sealed,
+        proof,
     };
     let setting = ManySetting {
         paths: look.paths,
@@ -213,7 +217,16 @@ fn text_of(
     Ok(output)
 }
 
+/// Whether the proof of the words, if they have one, shows that the node's own identifier was made.
+fn is_fit(words: &NodeWords, random: &[u8; 32]) -> bool
+    ensures { IsTrue result ↔ Vouches words.now.look words.now.proof random.now }
+{
+    let own = own_id(words.look.own, random);
+    is_vouched(words.look.policy, own, words.proof)
+}
+
 /// Does the jobs that the input names, and makes the text of what was found, or says why there is none. Nothing is written yet.
+/// A proof that doesn't show that the node's own identifier was made is refused before anything is read or sent.
 pub fn node<
     R: Threads + Wait + Sync,
     S: Source,
@@ -229,7 +242,7 @@ pub fn node<
     call: &Call<'_, C, G>,
 ) -> Result<Bytes, Status>
     requires { IsInRange words.now.look }
-    ensures ok { IfOk result (NodeText words.now.look (lasting_of words.now) words.now.table
+    ensures ok { IfOk result ((node_promise words.now).text
         (called_with call.now.random (C.slow call.now.check.now) (G.accepted call.now.seal.now)
         (G.tag_of call.now.seal.now))
         (shown S.left S.faults source.old source.new)
@@ -240,7 +253,52 @@ pub fn node<
         (shown S.left S.faults source.old source.new)
         (shown_link L.told L.recv_faults L.send_faults link.old link.new)) }
     ensures no_memory { IfErr result (λ status. status ≡ Status.NoMemory →
-        NodeBegun words.now.look (lasting_of words.now)
+        NodeBegun words.now.look (lasting_of words.now) words.now.proof
+        (called_with call.now.random (C.slow call.now.check.now) (G.accepted call.now.seal.now)
+        (G.tag_of call.now.seal.now))
+        (shown S.left S.faults source.old source.new)
+        (shown_link L.told L.recv_faults L.send_faults link.old link.new) ⊎ (link.new ≡ link.old)) }
+    ensures unread { IfErr result (λ status. number_of status ≡ 15 → source.new ≡ source.old) }
+    ensures early { IfErr result (λ status. EndsUnasked (number_of status) → link.new ≡ link.old) }
+    ensures kept { L.kept link.new ≡ L.kept link.old }
+    ensures hears_well { ¬ IsErrOf result Status.LinkFault
+        → L.recv_faults link.new ≡ L.recv_faults link.old }
+    ensures hears_last { IsErrOf result Status.LinkFault
+        → FailsLast L.told L.recv_faults link.old link.new }
+    ensures at_most { ReadsAtMost (S.left source.old) (S.left source.new) }
+    ensures reads_well { ¬ IsErrOf result Status.SourceFault
+        → S.faults source.new ≡ S.faults source.old }
+    ensures reads_last { IsErrOf result Status.SourceFault
+        → FailsLast S.left S.faults source.old source.new }
+{
+    match is_fit(words, &call.random) {
+        true => do_jobs(rt, alloc, words, source, link, call),
+        false => Err(Status::BadProof),
+    }
+}
+
+/// The same of words whose proof is good.
+fn do_jobs<R: Threads + Wait + Sync, S: Source, L: Link, C: PacedCheck + Sync, G: Seal + SealCheck>(
+    rt: &R,
+    alloc: Global,
+    words: &NodeWords,
+    source: &mut S,
+    link: &mut L,
+    call: &Call<'_, C, G>,
+) -> Result<Bytes, Status>
+    requires { IsInRange words.now.look }
+    ensures ok { IfOk result (NodeText words.now.look (lasting_of words.now) words.now.proof words.now.table
+        (called_with call.now.random (C.slow call.now.check.now) (G.accepted call.now.seal.now)
+        (G.tag_of call.now.seal.now))
+        (shown S.left S.faults source.old source.new)
+        (shown_link L.told L.recv_faults L.send_faults link.old link.new)) }
+    ensures cause { IfErr result (Begun words.now
+        (called_with call.now.random (C.slow call.now.check.now) (G.accepted call.now.seal.now)
+        (G.tag_of call.now.seal.now))
+        (shown S.left S.faults source.old source.new)
+        (shown_link L.told L.recv_faults L.send_faults link.old link.new)) }
+    ensures no_memory { IfErr result (λ status. status ≡ Status.NoMemory →
+        NodeBegun words.now.look (lasting_of words.now) words.now.proof
         (called_with call.now.random (C.slow call.now.check.now) (G.accepted call.now.seal.now)
         (G.tag_of call.now.seal.now))
         (shown S.left S.faults source.old source.new)
@@ -273,6 +331,7 @@ pub fn node<
         alloc,
         &words.look,
         lasting,
+        words.proof,
         own,
         table,
         proofs,

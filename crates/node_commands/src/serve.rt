@@ -189,6 +189,7 @@ fn serve_at_once<R: Threads + Wait + Sync, L: Link, C: PacedCheck, G: Seal + Sea
         proofs,
         tokens: Tokens::limited(&call.random, 0, service.per_address as usize),
         sealed: service.sealed,
+        proof: None,
     };
     serve_many(
         rt,

@@ -7,11 +7,11 @@ use Rattle.kad_words.specs.Plain.{CommandOf}
 use Rattle.kad_words.specs.declared.command.Command.{Command}
 use Rattle.kad_words.proofs.OneCommand.{command_once}
 use Rattle.command_base.specs.declared.status.Status.{Status}
-use Rattle.command_base.specs.declared.status.Status.TheVariants.{Usage, BadLine, LinkFault, SourceFault, Strays, NoSeeds, NoMemory, Unminted, TooLong, BadValue, Unsound}
+use Rattle.command_base.specs.declared.status.Status.TheVariants.{Usage, BadLine, LinkFault, SourceFault, Strays, NoSeeds, NoMemory, Unminted, TooLong, BadValue, Unsound, BadProof}
 use Rattle.node_top.specs.Asked.{Asks}
 use Rattle.command_base.specs.Shown.{Shown, IsTold, HasFailed, nowhere}
 use Rattle.command_base.specs.Input.{ReadsTooMuch}
-use Rattle.node_top.specs.Commands.{OfCommand, EndsInStrays, promise_of, HasText, IsCaused, HasCause, HasBegun, HasStart, HasNoSeeds, HasStrays, HasBadLine, HasBadValue, HasUnsound, HasNoLastStray, HasNothing, ReadsInput, GoesWell, IsDone}
+use Rattle.node_top.specs.Commands.{OfCommand, EndsInStrays, promise_of, HasText, IsCaused, HasCause, HasBegun, HasStart, HasNoSeeds, HasStrays, HasBadLine, HasBadValue, HasBadProof, HasUnsound, HasNoLastStray, HasNothing, ReadsInput, GoesWell, IsDone}
 use Rattle.command_base.specs.Endings.{number_of, OrNoMemory, MayEnd}
 use Rattle.node_top.specs.Endings.{Names, CutShort, EndsByCommand}
 use Rattle.command_base.specs.Written.{IsFront}
@@ -72,6 +72,9 @@ module _ (words : List Word) (called : Called) (source : Shown ℕ) (link : Show
   pub not_refused : HasBadValue words → ⊥
   not_refused n = not_signed BadValue tt n
 
+  pub not_unproved : HasBadProof words called.random → ⊥
+  not_unproved n = not_signed BadProof tt n
+
   pub not_strays : IsTold link → EndsInStrays words called link → ⊥
   not_strays told n = not_signed Strays told n
 
@@ -84,15 +87,16 @@ never_rose : Rose 0 0 → ⊥
 never_rose h = elim h [ inl more ↦ absurd (omega (arith, more)) | inr last ↦ absurd (omega (arith, last)) ]
 
 -- the cause of a command that takes no link is none of a link's
-pub linkless : (command : Command) → ¬ IsTrue (promise_of command).links → (called : Called) (source : Shown ℕ) (s : Status) → (promise_of command).cause called source nowhere s → (number_of s ≢ 4) × (number_of s ≢ 7) × (number_of s ≢ 8) × (number_of s ≢ 12) × (number_of s ≢ 13)
+pub linkless : (command : Command) → ¬ IsTrue (promise_of command).links → (called : Called) (source : Shown ℕ) (s : Status) → (promise_of command).cause called source nowhere s → (number_of s ≢ 4) × (number_of s ≢ 7) × (number_of s ≢ 8) × (number_of s ≢ 12) × (number_of s ≢ 13) × (number_of s ≢ 15)
 linkless command n called source LinkFault c = absurd (never_rose ((lawful command).means called source nowhere LinkFault c).0)
 linkless command n called source Strays c = absurd ((lawful command).counts n called source nowhere ((lawful command).means called source nowhere Strays c).0)
 linkless command n called source Unsound c = absurd ((lawful command).restores n source ((lawful command).means called source nowhere Unsound c))
 linkless command n called source BadValue c = absurd ((lawful command).refuses n ((lawful command).means called source nowhere BadValue c))
+linkless command n called source BadProof c = absurd ((lawful command).vouches n called.random ((lawful command).means called source nowhere BadProof c))
 linkless command n called source NoSeeds c =
     let none_ = (lawful command).means called source nowhere NoSeeds c in
     absurd ((lawful command).seeks n called source none_.1)
-linkless command n called source other c = ((λ e. absurd cc), (λ e. absurd cc), (λ e. absurd cc), (λ e. absurd cc), (λ e. absurd cc))
+linkless command n called source other c = ((λ e. absurd cc), (λ e. absurd cc), (λ e. absurd cc), (λ e. absurd cc), (λ e. absurd cc), (λ e. absurd cc))
 
 -- no command's cause is that of words which ask for none
 pub unasked : (command : Command) (called : Called) (source : Shown ℕ) (link : Shown Event) (s : Status) → (promise_of command).cause called source link s → number_of s ≡ 2 → ⊥
@@ -107,6 +111,16 @@ unrefused (Err s) X command n called source link c = by s c
   where
     by : (s : Status) → (promise_of command).cause called source link s → number_of s ≡ 12 → X
     by BadValue h e = absurd (n ((lawful command).means called source link BadValue h))
+    by other h e = absurd cc
+
+-- where a command refuses no proof, no cause of its is that
+pub unvouched : {T : Type 0} (r : Result T Status) (X : Type 0) (command : Command) (called : Called) → ¬ (promise_of command).unproved called.random → (source : Shown ℕ) (link : Shown Event) → IfErr r ((promise_of command).cause called source link)
+    → IfErr r (λ status. number_of status ≡ 15 → X)
+unvouched (Ok x) X command called n source link c = tt
+unvouched (Err s) X command called n source link c = by s c
+  where
+    by : (s : Status) → (promise_of command).cause called source link s → number_of s ≡ 15 → X
+    by BadProof h e = absurd (n ((lawful command).means called source link BadProof h))
     by other h e = absurd cc
 
 -- words that gave no command
@@ -193,6 +207,10 @@ module _ (asks : Type 0) (words : List Word) (called : Called) (source : Shown �
   bad_value BadValue c e = record { command = c.command; asked = c.asked; holds = means BadValue c }
   bad_value other c e = absurd cc
 
+  pub bad_proof : (s : Status) → HasCause asks words called source link s → number_of s ≡ 15 → HasBadProof words called.random
+  bad_proof BadProof c e = record { command = c.command; asked = c.asked; holds = means BadProof c }
+  bad_proof other c e = absurd cc
+
   pub unsound : (s : Status) → HasCause asks words called source link s → number_of s ≡ 13 → HasUnsound words source
   unsound Unsound c e = record { command = c.command; asked = c.asked; holds = means Unsound c }
   unsound other c e = absurd cc
@@ -222,6 +240,9 @@ module _ (asks : Type 0) (words : List Word) (called : Called) (source : Shown �
 
   pub bad_value_comes : (s : Status) → HasCause asks words called source link s → IsUncalled link s → ((command : Command) → CommandOf words command → asks) → HasBadValue words → OrNoMemory (number_of s) 12
   bad_value_comes s c early asking n = comes s BadValue c early tt n (λ d. asking d.command d.asked)
+
+  pub bad_proof_comes : (s : Status) → HasCause asks words called source link s → IsUncalled link s → ((command : Command) → CommandOf words command → asks) → HasBadProof words called.random → OrNoMemory (number_of s) 15
+  bad_proof_comes s c early asking n = comes s BadProof c early tt n (λ d. asking d.command d.asked)
 
   pub too_long_comes : (s : Status) → HasCause asks words called source link s → IsUncalled link s → IsTold source → ReadsTooMuch source.before source.after → OrNoMemory (number_of s) 11
   too_long_comes Usage c early told much = absurd (few_not_much source.before source.after told (unread_few source.before source.after c.1) much)

@@ -110,6 +110,11 @@ EndsInStrays words called link = OfCommand words (λ c. (promise_of c).last_stra
 abbrev pub HasBadValue : List Word → Type 0
 HasBadValue words = OfCommand words (λ c. (promise_of c).refused)
 
+-- the words ask for a command, and have a proof that doesn't show that the identifier was made which they, or these random bytes, give
+-- the node
+abbrev pub HasBadProof : List Word → List ℕ → Type 0
+HasBadProof words random = OfCommand words (λ c. (promise_of c).unproved random)
+
 -- the words ask for a search, which finds nothing
 abbrev pub HasNothing : List Word → List ℕ → Type 0
 HasNothing words random = OfCommand words (λ c. (promise_of c).nothing random)

@@ -52,6 +52,7 @@ fn output_of<
         (shown S.left S.faults source.old source.new)
         (shown_link L.told L.recv_faults L.send_faults link.old link.new)) }
     ensures unread { IfErr result (λ status. number_of status ≡ 12 → source.new ≡ source.old) }
+    ensures unproved { IfErr result (λ status. number_of status ≡ 15 → source.new ≡ source.old) }
     ensures early { IfErr result (λ status. EndsUnasked (number_of status) → link.new ≡ link.old) }
     ensures kept { L.kept link.new ≡ L.kept link.old }
     ensures hears_well { ¬ IsErrOf result Status.LinkFault
@@ -158,7 +159,7 @@ pub(crate) fn asked_output<
         (shown S.left S.faults source.old source.new)
         (shown_link L.told L.recv_faults L.send_faults link.old link.new)) }
     ensures unread { IfErr result (λ status. (number_of status ≡ 2) ⊎ (number_of status ≡ 12)
-        → source.new ≡ source.old) }
+        ⊎ (number_of status ≡ 15) → source.new ≡ source.old) }
     ensures early { IfErr result (λ status. EndsUnasked (number_of status) → link.new ≡ link.old) }
     ensures kept { L.kept link.new ≡ L.kept link.old }
     ensures hears_well { ¬ IsErrOf result Status.LinkFault
@@ -202,7 +203,7 @@ pub(crate) fn asked_plainly<S: Source, C: Check, G: Seal + SealCheck>(
     ensures no_input { ¬ ReadsInput (bytes_of words.now) → source.new ≡ source.old }
     ensures no_link { IfErr result (λ status. (number_of status ≢ 4)
         × (number_of status ≢ 7) × (number_of status ≢ 8) × (number_of status ≢ 12)
-        × (number_of status ≢ 13)) }
+        × (number_of status ≢ 13) × (number_of status ≢ 15)) }
     ensures at_most { ReadsAtMost (S.left source.old) (S.left source.new) }
     ensures reads_well { ¬ IsErrOf result Status.SourceFault
         → S.faults source.new ≡ S.faults source.old }

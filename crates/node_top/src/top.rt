@@ -5,7 +5,7 @@ ghost use Rattle.node_top.specs.Asked.{Asks, AsksPlain, bytes_of};
 ghost use Rattle.command_base.specs.Called.{called_plainly, called_with};
 ghost use Rattle.command_base.specs.Shown.{shown, shown_link, nowhere, IsTold, HasFailed};
 ghost use Rattle.command_base.specs.Input.{ReadsAtMost, ReadsTooMuch};
-ghost use Rattle.node_top.specs.Commands.{GoesPlainlyWell, GoesWell, HasBegun, HasBadLine, HasBadValue, HasNoLastStray, HasNoSeeds, HasNothing, HasStart, HasStrays, HasUnsound, EndsInStrays};
+ghost use Rattle.node_top.specs.Commands.{GoesPlainlyWell, GoesWell, HasBegun, HasBadLine, HasBadProof, HasBadValue, HasNoLastStray, HasNoSeeds, HasNothing, HasStart, HasStrays, HasUnsound, EndsInStrays};
 ghost use Rattle.node_top.specs.Commands.{IsDone, ReadsInput};
 ghost use Rattle.command_base.specs.Endings.{last_status, EndsUnasked, OrNoMemory};
 ghost use Rattle.node_top.specs.Endings.{CutShort, EndsByCommand, WritesLine};
@@ -98,6 +98,7 @@ pub fn run<
     ensures bad_value { result ≡ 12 → HasBadValue (bytes_of words.now) }
     ensures unsound { result ≡ 13 → HasUnsound (bytes_of words.now)
         (shown S.left S.faults source.old source.new) }
+    ensures bad_proof { result ≡ 15 → HasBadProof (bytes_of words.now) random.now }
 
     // If the source, or the link, tells to the end, each of these causes brings its status, or that of out of memory.
     ensures bad_line_comes { let input = shown S.left S.faults source.old source.new in
@@ -116,6 +117,7 @@ pub fn run<
         → ReadsTooMuch (S.left source.old) (S.left source.new)
         → OrNoMemory result 11 }
     ensures bad_value_comes { HasBadValue (bytes_of words.now) → OrNoMemory result 12 }
+    ensures bad_proof_comes { HasBadProof (bytes_of words.now) random.now → OrNoMemory result 15 }
     ensures unsound_comes { let input = shown S.left S.faults source.old source.new in
         IsTold input → ¬ HasFailed input → HasUnsound (bytes_of words.now) input
         → OrNoMemory result 13 }
@@ -138,9 +140,9 @@ pub fn run<
         (shown_link L.told L.recv_faults L.send_faults link.old link.new)
         (shown K.written K.faults sink.old sink.new) }
 
-    // What was not called: the source at 2 and at 12, and for a command that reads no input; and the link at each status
+    // What was not called: the source at 2, 12 and 15, and for a command that reads no input; and the link at each status
     // that comes before it is first called, and for a command that takes none.
-    ensures unread { (result ≡ 2) ⊎ (result ≡ 12) → source.new ≡ source.old }
+    ensures unread { (result ≡ 2) ⊎ (result ≡ 12) ⊎ (result ≡ 15) → source.new ≡ source.old }
     ensures no_input { ¬ ReadsInput (bytes_of words.now) → source.new ≡ source.old }
     ensures at_most { ReadsAtMost (S.left source.old) (S.left source.new) }
     ensures unasked { EndsUnasked result → link.new ≡ link.old }
@@ -157,7 +159,7 @@ pub fn run<
     ensures writes_well { result ≡ 0 → K.faults sink.new ≡ K.faults sink.old }
     ensures writes_last { result ≡ 5 → FailsLast K.written K.faults sink.old sink.new }
     ensures by_command { EndsByCommand (bytes_of words.now) result }
-    ensures statuses { (result ≤ last_status) × (result ≢ 1) }
+    ensures statuses { (result ≤ last_status) × (result ≢ 1) × (result ≢ 14) }
 {
     let call = Call {
         random: *random,
@@ -182,8 +184,8 @@ pub fn run<
 /// made from a seed, and writes the counts of the lookup and how many of the closest nodes that aren't hostile it found. It
 /// waits by the network's own clock, which takes no time.
 ///
-/// The statuses and their lines are those of `run`. 2 comes also if the words ask for another command; 4, 7, 8, 12 and
-/// 13 don't come.
+/// The statuses and their lines are those of `run`. 2 comes also if the words ask for another command; 4, 7, 8, 12, 13
+/// and 15 don't come.
 pub fn run_plain<S: Source, K: Sink, C: Check>(
     alloc: Global,
     words: &[String],
@@ -249,7 +251,7 @@ pub fn run_plain<S: Source, K: Sink, C: Check>(
     ensures by_command { AsksPlain (bytes_of words.now)
         → EndsByCommand (bytes_of words.now) result }
     ensures statuses { (result ≤ last_status) × (result ≢ 1) × (result ≢ 4) × (result ≢ 7) × (result ≢ 8)
-        × (result ≢ 12) × (result ≢ 13) }
+        × (result ≢ 12) × (result ≢ 13) × (result ≢ 14) × (result ≢ 15) }
 {
     let seal = GroupSeal::new([0; 32]);
     let call = Call {

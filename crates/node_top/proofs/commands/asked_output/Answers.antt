@@ -17,8 +17,11 @@ returns-clause-cause g c = err_then c.output_of.result _ _ c.output_of.ensures.c
 
 pub returns-clause-unread : goal.returns-clause-unread
 returns-clause-unread g c =
-    err_then c.output_of.result _ _ (both_err c.output_of.result _ _ c.output_of.ensures.cause c.output_of.ensures.unread)
-    (λ status h either. elim either [ inl two ↦ absurd (unasked c.in_ok-command.command _ _ _ status h.0 two) | inr twelve ↦ h.1 twelve ])
+    err_then c.output_of.result _ _ (both_err c.output_of.result _ _ c.output_of.ensures.cause (both_err c.output_of.result _ _ c.output_of.ensures.unread c.output_of.ensures.unproved))
+    (λ status h either. elim either [
+      | inl two ↦ absurd (unasked c.in_ok-command.command _ _ _ status h.0 two)
+      | inr later ↦ elim later [ inl twelve ↦ h.1.0 twelve | inr fifteen ↦ h.1.1 fifteen ]
+    ])
 
 pub returns-clause-no_memory : goal.returns-clause-no_memory
 returns-clause-no_memory g c =

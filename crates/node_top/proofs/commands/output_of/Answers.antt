@@ -2,7 +2,7 @@ use Rattle.std.proofs.Common.{ℕ, List, sym, ap, rules, ◌∙◌, ◌≢◌, r
 use Rattle.kad_words.specs.declared.command.Command.TheVariants.{Lookup, Peers, Get, Put, Serve, Node, Refresh}
 use Rattle.command_base.specs.Shown.{nowhere}
 use Rattle.node_top.proofs.Lawfully.{lawful}
-use Rattle.node_top.proofs.Causes.{begun_at, cause_at, text_at, unrefused, linkless}
+use Rattle.node_top.proofs.Causes.{begun_at, cause_at, text_at, unrefused, unvouched, linkless}
 use Rattle.command_base.specs.declared.status.Status.TheVariants.{LinkFault}
 use Rattle.command_base.proofs.Results.{err_at, err_then}
 use Rattle.command_base.specs.Endings.{number_of}
@@ -64,6 +64,31 @@ returns-in-Refresh-clause-unread g c = unrefused c.refresh.result _ (Refresh c.i
 pub returns-in_default-clause-unread : goal.returns-in_default-clause-unread
 returns-in_default-clause-unread g c =
     unrefused c.plain_output_of.result _ c.args.command.now ((lawful c.args.command.now).refuses (search rules)) _ _ _
+    (c.plain_output_of.ensures.cause (g.C.PacedCheck.slow c.args.call.now.check.now) (g.G.SealCheck.accepted c.args.call.now.seal.now) (g.G.Seal.tag_of c.args.call.now.seal.now) nowhere)
+
+-- ---- none of them refuses a proof but that which is given one
+
+pub returns-in-Lookup-clause-unproved : goal.returns-in-Lookup-clause-unproved
+returns-in-Lookup-clause-unproved g c = unvouched c.lookup.result _ (Lookup c.in-Lookup.look) _ (λ refused. refused) _ _ c.lookup.ensures.cause
+
+pub returns-in-Peers-clause-unproved : goal.returns-in-Peers-clause-unproved
+returns-in-Peers-clause-unproved g c = unvouched c.peers.result _ (Peers c.in-Peers.look c.in-Peers.announce c.in-Peers.spread) _ (λ refused. refused) _ _ c.peers.ensures.cause
+
+pub returns-in-Get-clause-unproved : goal.returns-in-Get-clause-unproved
+returns-in-Get-clause-unproved g c = unvouched c.get.result _ (Get c.in-Get.look) _ (λ refused. refused) _ _ c.get.ensures.cause
+
+pub returns-in-Put-clause-unproved : goal.returns-in-Put-clause-unproved
+returns-in-Put-clause-unproved g c = unvouched c.put.result _ (Put c.in-Put.look c.as_slice.result.now c.in-Put.spread) _ (λ refused. refused) _ _ c.put.ensures.cause
+
+pub returns-in-Serve-clause-unproved : goal.returns-in-Serve-clause-unproved
+returns-in-Serve-clause-unproved g c = unvouched c.serve.result _ (Serve c.in-Serve.words) _ (λ refused. refused) _ _ c.serve.ensures.cause
+
+pub returns-in-Refresh-clause-unproved : goal.returns-in-Refresh-clause-unproved
+returns-in-Refresh-clause-unproved g c = unvouched c.refresh.result _ (Refresh c.in-Refresh.words) _ (λ refused. refused) _ _ c.refresh.ensures.cause
+
+pub returns-in_default-clause-unproved : goal.returns-in_default-clause-unproved
+returns-in_default-clause-unproved g c =
+    unvouched c.plain_output_of.result _ c.args.command.now _ ((lawful c.args.command.now).vouches (search rules) c.args.call.now.random) _ _
     (c.plain_output_of.ensures.cause (g.C.PacedCheck.slow c.args.call.now.check.now) (g.G.SealCheck.accepted c.args.call.now.seal.now) (g.G.Seal.tag_of c.args.call.now.seal.now) nowhere)
 
 pub returns-in_default-clause-hears_last : goal.returns-in_default-clause-hears_last

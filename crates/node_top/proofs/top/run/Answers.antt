@@ -3,7 +3,7 @@ use Rattle.kad_words.proofs.OneCommand.{command_plain}
 use Rattle.node_top.specs.Commands.{promise_of}
 use Rattle.command_base.specs.declared.status.Status.TheVariants.{LinkFault, SourceFault}
 use Rattle.command_base.specs.Endings.{MayEnd, OrNoMemory, number_of}
-use Rattle.node_top.proofs.Causes.{done_of, cut_of, done_end, not_bad, not_much, not_seedless, not_strays, not_nothing, not_refused, not_unsound, is_no_memory, named, usage_alone, bad_line, link_fault, source_fault, strays, no_seeds, unminted, too_long, bad_value, unsound, bad_line_comes, no_seeds_come, strays_come, unminted_comes, too_long_comes, bad_value_comes, unsound_comes, completes, may_end, is_link_fault, is_source_fault}
+use Rattle.node_top.proofs.Causes.{done_of, cut_of, done_end, not_bad, not_much, not_seedless, not_strays, not_nothing, not_refused, not_unproved, not_unsound, is_no_memory, named, usage_alone, bad_line, link_fault, source_fault, strays, no_seeds, unminted, too_long, bad_value, bad_proof, unsound, bad_line_comes, no_seeds_come, strays_come, unminted_comes, too_long_comes, bad_value_comes, bad_proof_comes, unsound_comes, completes, may_end, is_link_fault, is_source_fault}
 use Rattle.node_top.proofs.top.run.Goals as goal
 
 -- ---- the command has its output
@@ -36,6 +36,9 @@ returns-in-Ok-clause-too_long_comes g c = λ told much. absurd (not_much _ _ _ _
 
 pub returns-in-Ok-clause-bad_value_comes : goal.returns-in-Ok-clause-bad_value_comes
 returns-in-Ok-clause-bad_value_comes g c = λ n. absurd (not_refused _ _ _ _ _ c.in-Ok.ensures.ok n)
+
+pub returns-in-Ok-clause-bad_proof_comes : goal.returns-in-Ok-clause-bad_proof_comes
+returns-in-Ok-clause-bad_proof_comes g c = λ n. absurd (not_unproved _ _ _ _ _ c.in-Ok.ensures.ok n)
 
 pub returns-in-Ok-clause-unsound_comes : goal.returns-in-Ok-clause-unsound_comes
 returns-in-Ok-clause-unsound_comes g c = λ told quiet n. absurd (not_unsound _ _ _ _ _ c.in-Ok.ensures.ok told quiet n)
@@ -94,6 +97,9 @@ returns-in-Err-clause-too_long g c = λ is. too_long _ _ _ _ _ c.in-Err.status c
 pub returns-in-Err-clause-bad_value : goal.returns-in-Err-clause-bad_value
 returns-in-Err-clause-bad_value g c = λ is. bad_value _ _ _ _ _ c.in-Err.status c.in-Err.ensures.cause (sym c.write_line.ensures.number ∙ is)
 
+pub returns-in-Err-clause-bad_proof : goal.returns-in-Err-clause-bad_proof
+returns-in-Err-clause-bad_proof g c = λ is. bad_proof _ _ _ _ _ c.in-Err.status c.in-Err.ensures.cause (sym c.write_line.ensures.number ∙ is)
+
 pub returns-in-Err-clause-unsound : goal.returns-in-Err-clause-unsound
 returns-in-Err-clause-unsound g c = λ is. unsound _ _ _ _ _ c.in-Err.status c.in-Err.ensures.cause (sym c.write_line.ensures.number ∙ is)
 
@@ -104,6 +110,10 @@ returns-in-Err-clause-bad_line_comes g c = λ told quiet bad.
 pub returns-in-Err-clause-bad_value_comes : goal.returns-in-Err-clause-bad_value_comes
 returns-in-Err-clause-bad_value_comes g c = λ n.
     subst (λ n. OrNoMemory n 12) (sym c.write_line.ensures.number) (bad_value_comes _ _ _ _ _ c.in-Err.status c.in-Err.ensures.cause (λ e. ap g.L.Link.told (c.in-Err.ensures.early e)) (λ command asked. command_plain _ command asked) n)
+
+pub returns-in-Err-clause-bad_proof_comes : goal.returns-in-Err-clause-bad_proof_comes
+returns-in-Err-clause-bad_proof_comes g c = λ n.
+    subst (λ n. OrNoMemory n 15) (sym c.write_line.ensures.number) (bad_proof_comes _ _ _ _ _ c.in-Err.status c.in-Err.ensures.cause (λ e. ap g.L.Link.told (c.in-Err.ensures.early e)) (λ command asked. command_plain _ command asked) n)
 
 pub returns-in-Err-clause-unsound_comes : goal.returns-in-Err-clause-unsound_comes
 returns-in-Err-clause-unsound_comes g c = λ told quiet n.
