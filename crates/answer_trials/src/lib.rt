@@ -23,6 +23,8 @@ mod table;
 #[cfg(test)]
 mod two_networks;
 #[cfg(test)]
+mod vouched;
+#[cfg(test)]
 mod whole;
 #[cfg(test)]
 mod workers;

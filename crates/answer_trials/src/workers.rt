@@ -30,6 +30,7 @@ fn setting(alloc: Global, sealed: bool) -> ServeSetting
         proofs: List::new(alloc),
         tokens: Tokens::new(&random(), 0),
         sealed,
+        proof: None,
     }
 }
 

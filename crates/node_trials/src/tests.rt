@@ -19,6 +19,7 @@ mod replies;
 mod spread;
 mod together;
 mod trial;
+mod vouched;
 
 use crate::tests::trial::Outside::{self, Answers, Names, Says};
 use crate::tests::trial::Wanted::{Events, Sends};

@@ -20,3 +20,5 @@ mod saved_table;
 mod siblings;
 #[cfg(test)]
 mod table;
+#[cfg(test)]
+mod vouched;

@@ -3,6 +3,7 @@ mod items;
 mod messages;
 mod said;
 mod seals;
+mod senders;
 mod tagging;
 mod text;
 mod two_networks;

@@ -1,8 +1,8 @@
 //! Lists of words and what each gives. Words are parted by one space; `ID` stands for an identifier of 40 digits, `SEED`
-//! for 64 and `ZEROS` for 64 zeros.
+//! for 64, `ZEROS` for 64 zeros, `PROOF` for a key and X, and `PARTED` for one word with a blank between these.
 mod addresses;
 
-use kad_base::{Family, Id, List, NoMemory, Policy};
+use kad_base::{Family, Id, List, NoMemory, Policy, Proof};
 use kad_words::{
     Command, LookWords, MintWords, NodeWords, RefreshWords, ServeWords, SimWords, TableWords,
     WordsFault, group_of, lacks_group, read,
@@ -15,6 +15,12 @@ const SEED: &str = "010000000000000000000000000000000000000000000000000000000000
 
 const ZEROS: &str = "0000000000000000000000000000000000000000000000000000000000000000";
 
+const PROOF: &str =
+    "01000000000000000000000000000000000000000000000000000000000000Fe,00000000000000000000000000000000000000aF";
+
+const PARTED: &str =
+    "01000000000000000000000000000000000000000000000000000000000000Fe 00000000000000000000000000000000000000aF";
+
 fn words_of(alloc: Global, line: &str) -> Result<Vec<String>, AllocError> {
     let mut words = Vec::new(alloc);
     for word in line.split(' ') {
@@ -22,6 +28,8 @@ fn words_of(alloc: Global, line: &str) -> Result<Vec<String>, AllocError> {
             "ID" => ID,
             "SEED" => SEED,
             "ZEROS" => ZEROS,
+            "PROOF" => PROOF,
+            "PARTED" => PARTED,
             _ => word,
         };
         words.push(String::from_str(alloc, word)?)?;
@@ -397,6 +405,7 @@ fn words_of_node(rt: HostRuntime) {
     ] {
         let words = NodeWords {
             look,
+            proof: None,
             receives,
             minutes,
             table,
@@ -404,6 +413,85 @@ fn words_of_node(rt: HostRuntime) {
         assert_eq!(rt;
             read_line(rt.alloc(), line),
             Ok(Command::Node { words }),
+            "at {line}"
+        );
+    }
+}
+
+/// The SHA-1 of `SEED`, by a program of another language.
+const MADE: Id = Id([
+    0x6c, 0x17, 0xa3, 0xfb, 0x6a, 0x1b, 0xe5, 0x26, 0xa1, 0x7e, 0xd8, 0xe3, 0x13, 0xf9, 0x19, 0x19,
+    0x59, 0x16, 0x72, 0xdd,
+]);
+
+#[test]
+fn words_of_a_node_with_a_proof(rt: HostRuntime) {
+    let Id(x) = id();
+    let proof = Some(Proof { key: seed(), x });
+    let target = Id([0; 20]);
+    for (line, own) in [
+        ("node --proof PROOF", MADE),
+        ("node --own ID --proof PROOF", id()),
+        ("node --proof PROOF --own ID", id()),
+        (
+            "node --proof 01000000000000000000000000000000000000000000000000000000000000fe,00000000000000000000000000000000000000af",
+            MADE,
+        ),
+        (
+            "node --proof 01000000000000000000000000000000000000000000000000000000000000FE,00000000000000000000000000000000000000AF",
+            MADE,
+        ),
+    ] {
+        let words = NodeWords {
+            look: LookWords {
+                target,
+                own: Some(own),
+                ..look()
+            },
+            proof,
+            receives: 0,
+            minutes: 0,
+            table: false,
+        };
+        assert_eq!(rt;
+            read_line(rt.alloc(), line),
+            Ok(Command::Node { words }),
+            "at {line}"
+        );
+    }
+}
+
+#[test]
+fn words_that_are_no_proof(rt: HostRuntime) {
+    for line in [
+        "node --proof",
+        "node --proof ",
+        "node --proof ,",
+        "node --proof SEED",
+        "node --proof SEED ID",
+        "node --proof PARTED",
+        "node --proof PROOF --proof PROOF",
+        "node --proof 01000000000000000000000000000000000000000000000000000000000000fe,00000000000000000000000000000000000000af,",
+        "node --proof 0100000000000000000000000000000000000000000000000000000000000fe,00000000000000000000000000000000000000af",
+        "node --proof 001000000000000000000000000000000000000000000000000000000000000fe,00000000000000000000000000000000000000af",
+        "node --proof 01000000000000000000000000000000000000000000000000000000000000fe,0000000000000000000000000000000000000af",
+        "node --proof 01000000000000000000000000000000000000000000000000000000000000fe,000000000000000000000000000000000000000af",
+        "node --proof 01000000000000000000000000000000000000000000000000000000000000fe,,00000000000000000000000000000000000000af",
+        "node --proof 01000000000000000000000000000000000000000000000000000000000000fe,0000000000000000000,000000000000000000af",
+        "node --proof 01000000000000000000000000000000000000000000000000000000000000fe00000000000000000000000000000000000000af",
+        "node --proof 01000000000000000000000000000000000000000000000000000000000000fe:00000000000000000000000000000000000000af",
+        "node --proof 01000000000000000000000000000000000000000000000000000000000000fg,00000000000000000000000000000000000000af",
+        "node --proof 01000000000000000000000000000000000000000000000000000000000000fe,00000000000000000000000000000000000000ag",
+        "node --proof 00000000000000000000000000000000000000af,01000000000000000000000000000000000000000000000000000000000000fe",
+        "serve --proof PROOF",
+        "lookup --target ID --proof PROOF",
+        "peers --key ID --proof PROOF",
+        "table --proof PROOF",
+        "mint --proof PROOF",
+    ] {
+        assert_eq!(rt;
+            read_line(rt.alloc(), line),
+            Err(WordsFault::Usage),
             "at {line}"
         );
     }

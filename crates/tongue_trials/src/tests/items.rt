@@ -78,6 +78,7 @@ const GET: Row = (
     b"d1:ad2:id20:abcdefghij01234567896:target20:mnopqrstuvwxyz123456e1:q3:get1:t2:aa1:y1:qe",
     Said::Query {
         read_only: false,
+        brings: false,
         ask: Asked::Get(NOTHING),
     },
 );
@@ -89,14 +90,14 @@ fn a_get_is_read_and_written(rt: HostRuntime) {
 
 #[test]
 fn a_lookups_get_is_written(rt: HostRuntime) {
-    let mut buf = [0u8; 160];
-    let len = get_into(&mut buf, &ABC, &MNO, false, true, 0x1aed_8da0);
+    let mut buf = [0u8; 192];
+    let len = get_into(&mut buf, &ABC, &MNO, false, true, &None, 0x1aed_8da0);
     assert_eq!(rt; len, 95);
     assert_eq!(rt;
         &buf[..len],
         b"d1:ad2:id20:abcdefghij01234567896:target20:mnopqrstuvwxyz123456e1:q3:get2:roi1e1:t4:\xa0\x8d\xed\x1a1:y1:qe".as_slice()
     );
-    let len = get_into(&mut buf, &ABC, &MNO, true, true, 0x1aed_8da0);
+    let len = get_into(&mut buf, &ABC, &MNO, true, true, &None, 0x1aed_8da0);
     assert_eq!(rt; len, 107);
     assert_eq!(rt;
         &buf[..len],

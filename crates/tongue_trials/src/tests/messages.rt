@@ -17,6 +17,7 @@ const PING: Row = (
     b"d1:ad2:id20:abcdefghij0123456789e1:q4:ping1:t2:aa1:y1:qe",
     Said::Query {
         read_only: false,
+        brings: false,
         ask: Asked::Ping,
     },
 );
@@ -30,6 +31,7 @@ const FIND_NODE: Row = (
     b"d1:ad2:id20:abcdefghij01234567896:target20:mnopqrstuvwxyz123456e1:q9:find_node1:t2:aa1:y1:qe",
     Said::Query {
         read_only: false,
+        brings: false,
         ask: Asked::FindNode(NOTHING),
     },
 );
@@ -43,6 +45,7 @@ const GET_PEERS: Row = (
     b"d1:ad2:id20:abcdefghij01234567899:info_hash20:mnopqrstuvwxyz123456e1:q9:get_peers1:t2:aa1:y1:qe",
     Said::Query {
         read_only: false,
+        brings: false,
         ask: Asked::GetPeers(NOTHING),
     },
 );
@@ -54,6 +57,7 @@ fn a_get_peers_is_read_and_written(rt: HostRuntime) {
 
 const IMPLIED: Said = Said::Query {
     read_only: false,
+    brings: false,
     ask: Asked::AnnouncePeer(Port::Implied),
 };
 
@@ -78,6 +82,7 @@ const GIVEN: Row = (
     b"d1:ad2:id20:abcdefghij01234567899:info_hash20:mnopqrstuvwxyz1234564:porti6881e5:token8:aoeusnthe1:q13:announce_peer1:t2:aa1:y1:qe",
     Said::Query {
         read_only: false,
+        brings: false,
         ask: Asked::AnnouncePeer(Port::Given(6881)),
     },
 );
@@ -91,6 +96,7 @@ const VOTE: Row = (
     b"d1:q4:vote2:roi1e1:t2:aa1:y1:qe",
     Said::Query {
         read_only: true,
+        brings: false,
         ask: Asked::Other(b"vote"),
     },
 );
@@ -105,6 +111,7 @@ const RO_OF_2: Row = (
     b"d1:ad2:id20:abcdefghij0123456789e1:q4:ping2:roi2e1:t2:aa1:y1:qe",
     Said::Query {
         read_only: false,
+        brings: false,
         ask: Asked::Ping,
     },
 );
@@ -239,8 +246,8 @@ fn a_record_of_either_length_is_split(rt: HostRuntime) {
 /// The query of a lookup whose node answers others, with the transaction id 0x1aed8da0: it doesn't say that it is read-only.
 #[test]
 fn a_query_of_a_node_that_answers_is_written(rt: HostRuntime) {
-    let mut buf = [0u8; 160];
-    let len = find_node_into(&mut buf, &ABC, &MNO, false, false, 0x1aed8da0);
+    let mut buf = [0u8; 192];
+    let len = find_node_into(&mut buf, &ABC, &MNO, false, false, &None, 0x1aed8da0);
     assert_eq!(&rt;
         &buf[..len],
         b"d1:ad2:id20:abcdefghij01234567896:target20:mnopqrstuvwxyz123456e1:q9:find_node1:t4:\xa0\x8d\xed\x1a1:y1:qe".as_slice()
@@ -250,13 +257,13 @@ fn a_query_of_a_node_that_answers_is_written(rt: HostRuntime) {
 /// The two queries of a lookup, with the transaction id 0x1aed8da0.
 #[test]
 fn queries_are_written(rt: HostRuntime) {
-    let mut buf = [0u8; 160];
-    let len = find_node_into(&mut buf, &ABC, &MNO, false, true, 0x1aed8da0);
+    let mut buf = [0u8; 192];
+    let len = find_node_into(&mut buf, &ABC, &MNO, false, true, &None, 0x1aed8da0);
     assert_eq!(&rt;
         &buf[..len],
         b"d1:ad2:id20:abcdefghij01234567896:target20:mnopqrstuvwxyz123456e1:q9:find_node2:roi1e1:t4:\xa0\x8d\xed\x1a1:y1:qe".as_slice()
     );
-    let len = get_peers_into(&mut buf, &ABC, &MNO, false, true, 0x1aed8da0);
+    let len = get_peers_into(&mut buf, &ABC, &MNO, false, true, &None, 0x1aed8da0);
     assert_eq!(&rt;
         &buf[..len],
         b"d1:ad2:id20:abcdefghij01234567899:info_hash20:mnopqrstuvwxyz123456e1:q9:get_peers2:roi1e1:t4:\xa0\x8d\xed\x1a1:y1:qe".as_slice()

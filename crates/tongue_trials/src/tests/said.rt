@@ -36,12 +36,26 @@ pub(crate) const PROOF: Proof = Proof {
     x: *b"xxxxxxxxxxxxxxxxxxxx",
 };
 
+/// The proof of who asks.
+pub(crate) const SENDER: Proof = Proof {
+    key: *b"ABCDEFGHIJKLMNOPQRSTUVWXYZ!?+-*/",
+    x: *b"0123456789abcdefghij",
+};
+
 /// What a message with the transaction id `aa` says.
 #[derive(Clone, Copy)]
 pub(crate) enum Said {
-    Query { read_only: bool, ask: Asked },
+    /// `brings`: whether it brings `SENDER`.
+    Query {
+        read_only: bool,
+        brings: bool,
+        ask: Asked,
+    },
     Answer(Parts),
-    Fault { code: i64, text: &'static [u8] },
+    Fault {
+        code: i64,
+        text: &'static [u8],
+    },
 }
 
 /// What `ABC` asks, about `MNO` if it is about somebody. The token is `aoeusnth`.
@@ -52,6 +66,8 @@ pub(crate) enum Asked {
     GetPeers(Want),
     AnnouncePeer(Port),
     Get(Want),
+    /// Of an immutable item, by its written form.
+    Put(&'static [u8]),
     Other(&'static [u8]),
 }
 
@@ -112,6 +128,20 @@ fn asks(ask: &Ask, asked: &Asked) -> bool {
         (Ask::Get { id, target, want }, Asked::Get(wanted)) => {
             *id == ABC && *target == MNO && want == wanted
         }
+        (
+            Ask::Put {
+                id,
+                token,
+                v,
+                mutable,
+            },
+            Asked::Put(form),
+        ) => {
+            *id == ABC
+                && token.as_slice() == b"aoeusnth".as_slice()
+                && v.as_slice() == *form
+                && !*mutable
+        }
         (Ask::Other { method }, Asked::Other(name)) => method.as_slice() == *name,
         _ => false,
     }
@@ -137,16 +167,35 @@ fn answers(answer: &Answer, parts: &Parts) -> bool {
         && has(&answer.values, parts.values)
 }
 
+/// Whether a proof is `SENDER`, where it is brought, or isn't there.
+fn is_brought(proof: &Option<Proof>, brings: bool) -> bool {
+    match proof {
+        Some(proof) => brings && *proof == SENDER,
+        None => !brings,
+    }
+}
+
 /// Whether a message says just this.
 fn says(message: &Message, said: &Said) -> bool {
     match (message, said) {
         (
-            Message::Query { tx, read_only, ask },
+            Message::Query {
+                tx,
+                read_only,
+                proof,
+                ask,
+            },
             Said::Query {
                 read_only: only,
+                brings,
                 ask: asked,
             },
-        ) => tx.as_slice() == b"aa".as_slice() && read_only == only && asks(ask, asked),
+        ) => {
+            tx.as_slice() == b"aa".as_slice()
+                && read_only == only
+                && is_brought(proof, *brings)
+                && asks(ask, asked)
+        }
         (Message::Answer { tx, answer }, Said::Answer(parts)) => {
             tx.as_slice() == b"aa".as_slice() && answers(answer, parts)
         }

@@ -37,14 +37,14 @@ const THERE: Addr = Addr {
 fn queries_for_contacts_of_ipv6_are_written(rt: HostRuntime) {
     let own = Id([0xff; 20]);
     let sought = Id([0; 20]);
-    let mut buf = [0u8; 160];
-    let len = find_node_into(&mut buf, &own, &sought, true, true, 0x1aed8da0);
+    let mut buf = [0u8; 192];
+    let len = find_node_into(&mut buf, &own, &sought, true, true, &None, 0x1aed8da0);
     assert_eq!(&rt; len, 113);
     assert_eq!(&rt;
         &buf[..len],
         b"d1:ad2:id20:\xff\xff\xff\xff\xff\xff\xff\xff\xff\xff\xff\xff\xff\xff\xff\xff\xff\xff\xff\xff6:target20:\x00\x00\x00\x00\x00\x00\x00\x00\x00\x00\x00\x00\x00\x00\x00\x00\x00\x00\x00\x004:wantl2:n6ee1:q9:find_node2:roi1e1:t4:\xa0\x8d\xed\x1a1:y1:qe".as_slice()
     );
-    let len = get_peers_into(&mut buf, &own, &sought, true, true, 0x1aed8da0);
+    let len = get_peers_into(&mut buf, &own, &sought, true, true, &None, 0x1aed8da0);
     assert_eq!(&rt; len, 116);
     assert_eq!(&rt;
         &buf[..len],
@@ -65,6 +65,7 @@ fn wants(rt: &impl Abort, alloc: Global, rows: &[Wanted]) {
         ]);
         let said = Said::Query {
             read_only: false,
+            brings: false,
             ask: Asked::FindNode(*want),
         };
         reads(rt, alloc, text.as_slice(), &said);
@@ -117,6 +118,7 @@ fn are_written(rt: &impl Abort, alloc: Global, rows: &[Wanted]) {
         ]);
         let said = Said::Query {
             read_only: false,
+            brings: false,
             ask: Asked::GetPeers(*want),
         };
         reads(rt, alloc, text.as_slice(), &said);
