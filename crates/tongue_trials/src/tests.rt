@@ -1,3 +1,4 @@
+mod asking;
 mod bencode;
 mod items;
 mod messages;

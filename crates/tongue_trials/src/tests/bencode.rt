@@ -165,23 +165,41 @@ fn falling_keys_of_a_whole_datagram_are_written_ascending(rt: HostRuntime) {
     formed(&rt, rt.alloc(), rising.as_slice(), rising.as_slice());
 }
 
-#[test]
-fn a_dictionary_keeps_its_keys(rt: HostRuntime) -> Result<(), Fail> {
-    let alloc = rt.alloc();
+/// A dictionary to which the keys `b`, `a` and `b` were added.
+fn dictionary(alloc: Global) -> Result<Entries, Fail> {
     let mut entries = Entries::new(alloc);
     entries.set(Bytes::from_slice(alloc, b"b")?, Value::Int(1))?;
     entries.set(Bytes::from_slice(alloc, b"a")?, Value::Int(2))?;
     entries.set(Bytes::from_slice(alloc, b"b")?, Value::Int(3))?;
-    assert_eq!(rt; entries.as_slice().len(), 2);
-    assert!(rt; entries.get(b"c").is_none());
-    assert!(rt; entries.remove(b"a").is_some());
-    assert!(rt; entries.remove(b"a").is_none());
-    let value = Value::Dict(entries);
-    assert!(rt; value.get(b"b").is_some());
-    assert!(rt; value.get(b"a").is_none());
-    assert!(rt; value.as_list().is_none());
-    assert!(rt; value.as_bytes().is_none());
-    assert_eq!(rt; value.as_int(), None);
+    Ok(entries)
+}
+
+fn has_two(entries: &Entries) -> bool {
+    entries.as_slice().len() == 2 && entries.get(b"c").is_none()
+}
+
+/// Whether it gives up a key once.
+fn gives_up(entries: &mut Entries, key: &[u8]) -> bool {
+    let first = entries.remove(key).is_some();
+    let second = entries.remove(key).is_some();
+    first && !second
+}
+
+/// Whether a value is a dictionary with the key `b` and without `a`, and nothing else.
+fn has_b_alone(value: &Value) -> bool {
+    value.get(b"b").is_some()
+        && value.get(b"a").is_none()
+        && value.as_list().is_none()
+        && value.as_bytes().is_none()
+        && value.as_int().is_none()
+}
+
+#[test]
+fn a_dictionary_keeps_its_keys(rt: HostRuntime) -> Result<(), Fail> {
+    let mut entries = dictionary(rt.alloc())?;
+    assert!(rt; has_two(&entries));
+    assert!(rt; gives_up(&mut entries, b"a"));
+    assert!(rt; has_b_alone(&Value::Dict(entries)));
     Ok(())
 }
 

@@ -1,10 +1,9 @@
 //! Items of BEP 44 in messages: what is got and put, values of any kind and hostile ones.
-use super::said::{
-    ABC, Asked, BARE, MNO, NOTHING, Row, Said, again, all_refused, both_ways, refuses,
-};
+use super::asking::{ASKING, Method, Query, all_written};
+use super::said::{ABC, Asked, BARE, NOTHING, Row, Said, again, all_refused, both_ways, refuses};
 use super::text::{Text, joined, repeated};
 use kad_bencode::Bad;
-use kad_krpc::{Answer, Ask, Key, KrpcFault, Message, decode, get_into};
+use kad_krpc::{Answer, Ask, Key, KrpcFault, Message, decode};
 use std::alloc::Global;
 use std::process::Abort;
 
@@ -44,14 +43,11 @@ fn is_put(rt: &impl Abort, ask: &Ask, form: &[u8], is_mutable: bool) {
     }
 }
 
-/// That a datagram puts an item of this written form.
-fn puts_form(rt: &impl Abort, alloc: Global, text: &[u8], form: &[u8], is_mutable: bool) {
-    match decode(alloc, text) {
-        Ok(message) => match &message {
-            Message::Query { ask, .. } => is_put(rt, ask, form, is_mutable),
-            _ => assert!(rt; false, "no query"),
-        },
-        Err(_) => assert!(rt; false, "refused"),
+/// That a message puts an item of this written form.
+fn is_put_in(rt: &impl Abort, message: &Message, form: &[u8], is_mutable: bool) {
+    match message {
+        Message::Query { ask, .. } => is_put(rt, ask, form, is_mutable),
+        _ => assert!(rt; false, "no query"),
     }
 }
 
@@ -63,15 +59,41 @@ fn has_form(rt: &impl Abort, answer: &Answer, form: &[u8]) {
     }
 }
 
-/// That a datagram answers with an item of this written form.
-fn answers_form(rt: &impl Abort, alloc: Global, text: &[u8], form: &[u8]) {
+/// That a message answers with an item of this written form.
+fn is_answer(rt: &impl Abort, message: &Message, form: &[u8]) {
+    match message {
+        Message::Answer { answer, .. } => has_form(rt, answer, form),
+        _ => assert!(rt; false, "no answer"),
+    }
+}
+
+/// What a datagram does with an item.
+#[derive(Clone, Copy)]
+enum Deed {
+    /// It puts a mutable one, or not.
+    Puts(bool),
+    Answers,
+}
+
+/// That a datagram does this with an item of this written form.
+fn does(rt: &impl Abort, alloc: Global, text: &[u8], form: &[u8], deed: Deed) {
     match decode(alloc, text) {
-        Ok(message) => match &message {
-            Message::Answer { answer, .. } => has_form(rt, answer, form),
-            _ => assert!(rt; false, "no answer"),
+        Ok(message) => match deed {
+            Deed::Puts(is_mutable) => is_put_in(rt, &message, form, is_mutable),
+            Deed::Answers => is_answer(rt, &message, form),
         },
         Err(_) => assert!(rt; false, "refused"),
     }
+}
+
+/// That a datagram puts an item of this written form.
+fn puts_form(rt: &impl Abort, alloc: Global, text: &[u8], form: &[u8], is_mutable: bool) {
+    does(rt, alloc, text, form, Deed::Puts(is_mutable));
+}
+
+/// That a datagram answers with an item of this written form.
+fn answers_form(rt: &impl Abort, alloc: Global, text: &[u8], form: &[u8]) {
+    does(rt, alloc, text, form, Deed::Answers);
 }
 
 const GET: Row = (
@@ -88,21 +110,25 @@ fn a_get_is_read_and_written(rt: HostRuntime) {
     both_ways(&rt, rt.alloc(), &GET);
 }
 
+const GETS: &[Query] = &[
+    Query {
+        method: Method::Get,
+        read_only: true,
+        text: b"d1:ad2:id20:abcdefghij01234567896:target20:mnopqrstuvwxyz123456e1:q3:get2:roi1e1:t4:\xa0\x8d\xed\x1a1:y1:qe",
+        ..ASKING
+    },
+    Query {
+        method: Method::Get,
+        six: true,
+        read_only: true,
+        text: b"d1:ad2:id20:abcdefghij01234567896:target20:mnopqrstuvwxyz1234564:wantl2:n6ee1:q3:get2:roi1e1:t4:\xa0\x8d\xed\x1a1:y1:qe",
+        ..ASKING
+    },
+];
+
 #[test]
 fn a_lookups_get_is_written(rt: HostRuntime) {
-    let mut buf = [0u8; 192];
-    let len = get_into(&mut buf, &ABC, &MNO, false, true, &None, 0x1aed_8da0);
-    assert_eq!(rt; len, 95);
-    assert_eq!(rt;
-        &buf[..len],
-        b"d1:ad2:id20:abcdefghij01234567896:target20:mnopqrstuvwxyz123456e1:q3:get2:roi1e1:t4:\xa0\x8d\xed\x1a1:y1:qe".as_slice()
-    );
-    let len = get_into(&mut buf, &ABC, &MNO, true, true, &None, 0x1aed_8da0);
-    assert_eq!(rt; len, 107);
-    assert_eq!(rt;
-        &buf[..len],
-        b"d1:ad2:id20:abcdefghij01234567896:target20:mnopqrstuvwxyz1234564:wantl2:n6ee1:q3:get2:roi1e1:t4:\xa0\x8d\xed\x1a1:y1:qe".as_slice()
-    );
+    all_written(&rt, GETS);
 }
 
 #[test]

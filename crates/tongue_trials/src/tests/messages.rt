@@ -1,15 +1,13 @@
 //! The examples of BEP 5 both ways, this project's own keys, and refusals with their keys.
+use super::asking::{ASKING, Method, Query, all_written};
 use super::said::{
-    ABC, Asked, BARE, HERE, MNO, NODE, NOTHING, PROOF, Parts, Row, Said, again, all_refused,
-    both_ways, is_mutable, one_way, reads,
+    Asked, BARE, HERE, MNO, NODE, NOTHING, PROOF, Parts, Row, Said, again, all_refused, both_ways,
+    has_no_room, one_way, reads,
 };
 use super::text::{Text, joined, repeated};
 use kad_base::{Addr, Ip, Report};
 use kad_bencode::Bad;
-use kad_krpc::{
-    Key, KrpcFault, Port, decode, encode_into, find_node_into, get_peers_into, said_is_writable,
-    split_record,
-};
+use kad_krpc::{Key, KrpcFault, Port, split_record};
 use std::alloc::Global;
 use std::process::Abort;
 
@@ -243,31 +241,37 @@ fn a_record_of_either_length_is_split(rt: HostRuntime) {
     assert!(&rt; split_record::<16>(record, 1).is_none());
 }
 
+const ANSWERING: &[Query] = &[Query {
+    method: Method::FindNode,
+    text: b"d1:ad2:id20:abcdefghij01234567896:target20:mnopqrstuvwxyz123456e1:q9:find_node1:t4:\xa0\x8d\xed\x1a1:y1:qe",
+    ..ASKING
+}];
+
 /// The query of a lookup whose node answers others, with the transaction id 0x1aed8da0: it doesn't say that it is read-only.
 #[test]
 fn a_query_of_a_node_that_answers_is_written(rt: HostRuntime) {
-    let mut buf = [0u8; 192];
-    let len = find_node_into(&mut buf, &ABC, &MNO, false, false, &None, 0x1aed8da0);
-    assert_eq!(&rt;
-        &buf[..len],
-        b"d1:ad2:id20:abcdefghij01234567896:target20:mnopqrstuvwxyz123456e1:q9:find_node1:t4:\xa0\x8d\xed\x1a1:y1:qe".as_slice()
-    );
+    all_written(&rt, ANSWERING);
 }
+
+const QUERIES: &[Query] = &[
+    Query {
+        method: Method::FindNode,
+        read_only: true,
+        text: b"d1:ad2:id20:abcdefghij01234567896:target20:mnopqrstuvwxyz123456e1:q9:find_node2:roi1e1:t4:\xa0\x8d\xed\x1a1:y1:qe",
+        ..ASKING
+    },
+    Query {
+        method: Method::GetPeers,
+        read_only: true,
+        text: b"d1:ad2:id20:abcdefghij01234567899:info_hash20:mnopqrstuvwxyz123456e1:q9:get_peers2:roi1e1:t4:\xa0\x8d\xed\x1a1:y1:qe",
+        ..ASKING
+    },
+];
 
 /// The two queries of a lookup, with the transaction id 0x1aed8da0.
 #[test]
 fn queries_are_written(rt: HostRuntime) {
-    let mut buf = [0u8; 192];
-    let len = find_node_into(&mut buf, &ABC, &MNO, false, true, &None, 0x1aed8da0);
-    assert_eq!(&rt;
-        &buf[..len],
-        b"d1:ad2:id20:abcdefghij01234567896:target20:mnopqrstuvwxyz123456e1:q9:find_node2:roi1e1:t4:\xa0\x8d\xed\x1a1:y1:qe".as_slice()
-    );
-    let len = get_peers_into(&mut buf, &ABC, &MNO, false, true, &None, 0x1aed8da0);
-    assert_eq!(&rt;
-        &buf[..len],
-        b"d1:ad2:id20:abcdefghij01234567899:info_hash20:mnopqrstuvwxyz123456e1:q9:get_peers2:roi1e1:t4:\xa0\x8d\xed\x1a1:y1:qe".as_slice()
-    );
+    all_written(&rt, QUERIES);
 }
 
 /// The datagram of an answer with one more key: its text, a part so many times, and what ends its value.
@@ -318,21 +322,6 @@ fn sixteen_nodes_with_proofs_are_read(rt: HostRuntime) {
 fn fifty_peers_are_read(rt: HostRuntime) {
     let record = b"6:\x7f\x00\x00\x01\x1a\xe1";
     part_is_read(&rt, rt.alloc(), b"6:valuesl", record, 50, b"e");
-}
-
-/// That a datagram is read, and has no room in 4,096 bytes.
-#[tactic(auto, using(kad_krpc::proofs::Writable::writable_forms, kad_krpc::proofs::Writable::writable_immutable))]
-fn has_no_room(rt: &impl Abort, alloc: Global, text: &[u8]) {
-    match decode(alloc, text) {
-        Ok(message) => {
-            let mutable = is_mutable(&message);
-            assert!(rt; !mutable);
-            said_is_writable();
-            let mut room = [0u8; 4096];
-            assert!(rt; encode_into(&message, &mut room).is_none());
-        }
-        Err(_) => assert!(rt; false, "refused"),
-    }
 }
 
 /// A token of 4,037 bytes makes the datagram 4,096 long, which is all that fits.

@@ -220,7 +220,7 @@ pub(crate) fn reads(rt: &impl Abort, alloc: Global, text: &[u8], said: &Said) {
 }
 
 /// Whether a message puts a mutable item.
-pub(crate) fn is_mutable(message: &Message) -> bool
+fn is_mutable(message: &Message) -> bool
     ensures { result ≡ is_mutable message.now }
 {
     match message {
@@ -268,17 +268,40 @@ fn writes(rt: &impl Abort, alloc: Global, message: &Message, text: &[u8])
     }
 }
 
-/// That a datagram is read, and the message that it is written again in both ways.
-pub(crate) fn again(rt: &impl Abort, alloc: Global, text: &[u8]) {
+/// That a message has no room in 4,096 bytes.
+#[tactic(auto, using(kad_krpc::proofs::Writable::writable_forms, kad_krpc::proofs::Writable::writable_immutable))]
+fn overflows(rt: &impl Abort, message: &Message)
+    requires { IsWritable message.now }
+{
+    let mut room = [0u8; 4096];
+    assert!(rt; encode_into(message, &mut room).is_none());
+}
+
+/// That a datagram is read, and the message that it is fits and is written again in both ways, or doesn't fit.
+fn is_read(rt: &impl Abort, alloc: Global, text: &[u8], fits: bool) {
     match decode(alloc, text) {
         Ok(message) => {
             let mutable = is_mutable(&message);
             assert!(rt; !mutable);
             said_is_writable();
-            writes(rt, alloc, &message, text);
+            if fits {
+                writes(rt, alloc, &message, text);
+            } else {
+                overflows(rt, &message);
+            }
         }
         Err(_) => assert!(rt; false, "refused"),
     }
+}
+
+/// That a datagram is read, and the message that it is written again in both ways.
+pub(crate) fn again(rt: &impl Abort, alloc: Global, text: &[u8]) {
+    is_read(rt, alloc, text, true);
+}
+
+/// That a datagram is read, and has no room in 4,096 bytes.
+pub(crate) fn has_no_room(rt: &impl Abort, alloc: Global, text: &[u8]) {
+    is_read(rt, alloc, text, false);
 }
 
 /// That a datagram says this, and the message that says it is written so.

@@ -1,12 +1,9 @@
 //! Queries that bring the proof of who asks, 52 bytes under this project's own key `sk`. The bytes were put together by hand.
-use super::said::{
-    ABC, Asked, MNO, NOTHING, Row, SENDER, Said, both_ways, one_way, reads, refuses,
-};
+use super::asking::{ASKING, Method, Query, all_written};
+use super::said::{Asked, NOTHING, Row, SENDER, Said, both_ways, one_way, reads, refuses};
 use super::text::joined;
 use kad_bencode::Bad;
-use kad_krpc::{
-    KrpcFault, Port, View, Want, decode_view, find_node_into, get_into, get_peers_into, proof_in,
-};
+use kad_krpc::{KrpcFault, Port, View, Want, decode_view, proof_in};
 use std::alloc::Global;
 use std::process::Abort;
 
@@ -267,113 +264,92 @@ fn a_proof_is_read_where_it_stands(rt: HostRuntime) {
     shows(&rt, SEEN);
 }
 
+const FINDS: &[Query] = &[
+    Query {
+        method: Method::FindNode,
+        brings: true,
+        text: b"d1:ad2:id20:abcdefghij01234567892:sk52:ABCDEFGHIJKLMNOPQRSTUVWXYZ!?+-*/0123456789abcdefghij6:target20:mnopqrstuvwxyz123456e1:q9:find_node1:t4:\xa0\x8d\xed\x1a1:y1:qe",
+        ..ASKING
+    },
+    Query {
+        method: Method::FindNode,
+        read_only: true,
+        brings: true,
+        text: b"d1:ad2:id20:abcdefghij01234567892:sk52:ABCDEFGHIJKLMNOPQRSTUVWXYZ!?+-*/0123456789abcdefghij6:target20:mnopqrstuvwxyz123456e1:q9:find_node2:roi1e1:t4:\xa0\x8d\xed\x1a1:y1:qe",
+        ..ASKING
+    },
+    Query {
+        method: Method::FindNode,
+        six: true,
+        read_only: true,
+        brings: true,
+        text: b"d1:ad2:id20:abcdefghij01234567892:sk52:ABCDEFGHIJKLMNOPQRSTUVWXYZ!?+-*/0123456789abcdefghij6:target20:mnopqrstuvwxyz1234564:wantl2:n6ee1:q9:find_node2:roi1e1:t4:\xa0\x8d\xed\x1a1:y1:qe",
+        ..ASKING
+    },
+];
+
 /// Plain, read-only, and read-only for contacts of IPv6. The transaction id is 0x1aed8da0.
 #[test]
 fn a_lookups_find_node_may_bring_a_proof(rt: HostRuntime) {
-    let mut buf = [0u8; 192];
-    let len = find_node_into(
-        &mut buf,
-        &ABC,
-        &MNO,
-        false,
-        false,
-        &Some(SENDER),
-        0x1aed_8da0,
-    );
-    assert_eq!(&rt;
-        &buf[..len],
-        b"d1:ad2:id20:abcdefghij01234567892:sk52:ABCDEFGHIJKLMNOPQRSTUVWXYZ!?+-*/0123456789abcdefghij6:target20:mnopqrstuvwxyz123456e1:q9:find_node1:t4:\xa0\x8d\xed\x1a1:y1:qe".as_slice()
-    );
-    let len = find_node_into(
-        &mut buf,
-        &ABC,
-        &MNO,
-        false,
-        true,
-        &Some(SENDER),
-        0x1aed_8da0,
-    );
-    assert_eq!(&rt;
-        &buf[..len],
-        b"d1:ad2:id20:abcdefghij01234567892:sk52:ABCDEFGHIJKLMNOPQRSTUVWXYZ!?+-*/0123456789abcdefghij6:target20:mnopqrstuvwxyz123456e1:q9:find_node2:roi1e1:t4:\xa0\x8d\xed\x1a1:y1:qe".as_slice()
-    );
-    let len = find_node_into(&mut buf, &ABC, &MNO, true, true, &Some(SENDER), 0x1aed_8da0);
-    assert_eq!(&rt;
-        &buf[..len],
-        b"d1:ad2:id20:abcdefghij01234567892:sk52:ABCDEFGHIJKLMNOPQRSTUVWXYZ!?+-*/0123456789abcdefghij6:target20:mnopqrstuvwxyz1234564:wantl2:n6ee1:q9:find_node2:roi1e1:t4:\xa0\x8d\xed\x1a1:y1:qe".as_slice()
-    );
+    all_written(&rt, FINDS);
 }
+
+const PEERS: &[Query] = &[
+    Query {
+        method: Method::GetPeers,
+        brings: true,
+        text: b"d1:ad2:id20:abcdefghij01234567899:info_hash20:mnopqrstuvwxyz1234562:sk52:ABCDEFGHIJKLMNOPQRSTUVWXYZ!?+-*/0123456789abcdefghije1:q9:get_peers1:t4:\xa0\x8d\xed\x1a1:y1:qe",
+        ..ASKING
+    },
+    Query {
+        method: Method::GetPeers,
+        read_only: true,
+        brings: true,
+        text: b"d1:ad2:id20:abcdefghij01234567899:info_hash20:mnopqrstuvwxyz1234562:sk52:ABCDEFGHIJKLMNOPQRSTUVWXYZ!?+-*/0123456789abcdefghije1:q9:get_peers2:roi1e1:t4:\xa0\x8d\xed\x1a1:y1:qe",
+        ..ASKING
+    },
+    Query {
+        method: Method::GetPeers,
+        six: true,
+        read_only: true,
+        brings: true,
+        text: b"d1:ad2:id20:abcdefghij01234567899:info_hash20:mnopqrstuvwxyz1234562:sk52:ABCDEFGHIJKLMNOPQRSTUVWXYZ!?+-*/0123456789abcdefghij4:wantl2:n6ee1:q9:get_peers2:roi1e1:t4:\xa0\x8d\xed\x1a1:y1:qe",
+        ..ASKING
+    },
+];
 
 /// Plain, read-only, and read-only for contacts of IPv6. The transaction id is 0x1aed8da0.
 #[test]
 fn a_lookups_get_peers_may_bring_a_proof(rt: HostRuntime) {
-    let mut buf = [0u8; 192];
-    let len = get_peers_into(
-        &mut buf,
-        &ABC,
-        &MNO,
-        false,
-        false,
-        &Some(SENDER),
-        0x1aed_8da0,
-    );
-    assert_eq!(&rt;
-        &buf[..len],
-        b"d1:ad2:id20:abcdefghij01234567899:info_hash20:mnopqrstuvwxyz1234562:sk52:ABCDEFGHIJKLMNOPQRSTUVWXYZ!?+-*/0123456789abcdefghije1:q9:get_peers1:t4:\xa0\x8d\xed\x1a1:y1:qe".as_slice()
-    );
-    let len = get_peers_into(
-        &mut buf,
-        &ABC,
-        &MNO,
-        false,
-        true,
-        &Some(SENDER),
-        0x1aed_8da0,
-    );
-    assert_eq!(&rt;
-        &buf[..len],
-        b"d1:ad2:id20:abcdefghij01234567899:info_hash20:mnopqrstuvwxyz1234562:sk52:ABCDEFGHIJKLMNOPQRSTUVWXYZ!?+-*/0123456789abcdefghije1:q9:get_peers2:roi1e1:t4:\xa0\x8d\xed\x1a1:y1:qe".as_slice()
-    );
-    let len = get_peers_into(&mut buf, &ABC, &MNO, true, true, &Some(SENDER), 0x1aed_8da0);
-    assert_eq!(&rt;
-        &buf[..len],
-        b"d1:ad2:id20:abcdefghij01234567899:info_hash20:mnopqrstuvwxyz1234562:sk52:ABCDEFGHIJKLMNOPQRSTUVWXYZ!?+-*/0123456789abcdefghij4:wantl2:n6ee1:q9:get_peers2:roi1e1:t4:\xa0\x8d\xed\x1a1:y1:qe".as_slice()
-    );
+    all_written(&rt, PEERS);
 }
+
+const GETS: &[Query] = &[
+    Query {
+        method: Method::Get,
+        brings: true,
+        text: b"d1:ad2:id20:abcdefghij01234567892:sk52:ABCDEFGHIJKLMNOPQRSTUVWXYZ!?+-*/0123456789abcdefghij6:target20:mnopqrstuvwxyz123456e1:q3:get1:t4:\xa0\x8d\xed\x1a1:y1:qe",
+        ..ASKING
+    },
+    Query {
+        method: Method::Get,
+        read_only: true,
+        brings: true,
+        text: b"d1:ad2:id20:abcdefghij01234567892:sk52:ABCDEFGHIJKLMNOPQRSTUVWXYZ!?+-*/0123456789abcdefghij6:target20:mnopqrstuvwxyz123456e1:q3:get2:roi1e1:t4:\xa0\x8d\xed\x1a1:y1:qe",
+        ..ASKING
+    },
+    Query {
+        method: Method::Get,
+        six: true,
+        read_only: true,
+        brings: true,
+        text: b"d1:ad2:id20:abcdefghij01234567892:sk52:ABCDEFGHIJKLMNOPQRSTUVWXYZ!?+-*/0123456789abcdefghij6:target20:mnopqrstuvwxyz1234564:wantl2:n6ee1:q3:get2:roi1e1:t4:\xa0\x8d\xed\x1a1:y1:qe",
+        ..ASKING
+    },
+];
 
 /// Plain, read-only, and read-only for contacts of IPv6. The transaction id is 0x1aed8da0.
 #[test]
 fn a_lookups_get_may_bring_a_proof(rt: HostRuntime) {
-    let mut buf = [0u8; 192];
-    let len = get_into(
-        &mut buf,
-        &ABC,
-        &MNO,
-        false,
-        false,
-        &Some(SENDER),
-        0x1aed_8da0,
-    );
-    assert_eq!(&rt;
-        &buf[..len],
-        b"d1:ad2:id20:abcdefghij01234567892:sk52:ABCDEFGHIJKLMNOPQRSTUVWXYZ!?+-*/0123456789abcdefghij6:target20:mnopqrstuvwxyz123456e1:q3:get1:t4:\xa0\x8d\xed\x1a1:y1:qe".as_slice()
-    );
-    let len = get_into(
-        &mut buf,
-        &ABC,
-        &MNO,
-        false,
-        true,
-        &Some(SENDER),
-        0x1aed_8da0,
-    );
-    assert_eq!(&rt;
-        &buf[..len],
-        b"d1:ad2:id20:abcdefghij01234567892:sk52:ABCDEFGHIJKLMNOPQRSTUVWXYZ!?+-*/0123456789abcdefghij6:target20:mnopqrstuvwxyz123456e1:q3:get2:roi1e1:t4:\xa0\x8d\xed\x1a1:y1:qe".as_slice()
-    );
-    let len = get_into(&mut buf, &ABC, &MNO, true, true, &Some(SENDER), 0x1aed_8da0);
-    assert_eq!(&rt;
-        &buf[..len],
-        b"d1:ad2:id20:abcdefghij01234567892:sk52:ABCDEFGHIJKLMNOPQRSTUVWXYZ!?+-*/0123456789abcdefghij6:target20:mnopqrstuvwxyz1234564:wantl2:n6ee1:q3:get2:roi1e1:t4:\xa0\x8d\xed\x1a1:y1:qe".as_slice()
-    );
+    all_written(&rt, GETS);
 }

@@ -53,9 +53,9 @@ fn fault(alloc: Global) -> Result<Message, Fail>
     })
 }
 
-/// That the written form of a message has this text with a tag, in memory of its own and where it stands.
+/// That the written form of a message has this text with a tag, in memory of its own.
 #[tactic(auto, using(kad_krpc::proofs::Writable::writable_forms, kad_krpc::proofs::Writable::writable_immutable))]
-fn is_tagged(
+fn is_tagged_apart(
     rt: &impl Abort,
     alloc: Global,
     message: &Message,
@@ -69,6 +69,16 @@ fn is_tagged(
     let written = encode(alloc, message)?;
     let tagged = with_tag(alloc, written.as_slice(), tag)?;
     assert!(rt; tagged.as_slice() == text);
+    Ok(())
+}
+
+/// The same where it stands.
+#[tactic(auto, using(kad_krpc::proofs::Writable::writable_forms, kad_krpc::proofs::Writable::writable_immutable))]
+fn is_tagged_in_place(rt: &impl Abort, message: &Message, tag: &[u8], text: &[u8])
+    requires { IsWritable message.now }
+{
+    message_is_well_typed(message);
+    form_is_untagged();
     let mut room = [0; 4096];
     match encode_into(message, &mut room) {
         Some(length) => match tag_into(&mut room, length, tag) {
@@ -77,7 +87,20 @@ fn is_tagged(
         },
         None => assert!(rt; false, "no room"),
     }
-    Ok(())
+}
+
+/// The same in both ways.
+fn is_tagged(
+    rt: &impl Abort,
+    alloc: Global,
+    message: &Message,
+    tag: &[u8],
+    text: &[u8],
+) -> Result<(), Fail>
+    requires { IsWritable message.now }
+{
+    is_tagged_in_place(rt, message, tag, text);
+    is_tagged_apart(rt, alloc, message, tag, text)
 }
 
 #[test]

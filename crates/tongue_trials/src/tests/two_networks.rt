@@ -1,12 +1,13 @@
 //! What BEP 32 adds to messages: whose contacts a query wants, and contacts and peers of IPv6 in an answer. The bytes were
 //! put together by hand.
+use super::asking::{ASKING, Method, Query, all_written};
 use super::said::{
     ABC, Asked, BARE, HERE, MNO, NODE, NOTHING, PROOF, Parts, Row, Said, again, both_ways, one_way,
     reads, refuses,
 };
 use super::text::joined;
 use kad_base::{Addr, Contact, Id, Ip, Report};
-use kad_krpc::{Key, KrpcFault, Want, find_node_into, get_peers_into};
+use kad_krpc::{Key, KrpcFault, Want};
 use std::alloc::Global;
 use std::process::Abort;
 
@@ -31,25 +32,35 @@ const THERE: Addr = Addr {
     port: 6881,
 };
 
+/// A node whose identifier is twenty bytes ff looks for twenty zero bytes, and for contacts of IPv6.
+const FROM_ONES: Query = Query {
+    own: Id([0xff; 20]),
+    sought: Id([0; 20]),
+    ..ASKING
+};
+
+const QUERIES: &[Query] = &[
+    Query {
+        method: Method::FindNode,
+        six: true,
+        read_only: true,
+        text: b"d1:ad2:id20:\xff\xff\xff\xff\xff\xff\xff\xff\xff\xff\xff\xff\xff\xff\xff\xff\xff\xff\xff\xff6:target20:\x00\x00\x00\x00\x00\x00\x00\x00\x00\x00\x00\x00\x00\x00\x00\x00\x00\x00\x00\x004:wantl2:n6ee1:q9:find_node2:roi1e1:t4:\xa0\x8d\xed\x1a1:y1:qe",
+        ..FROM_ONES
+    },
+    Query {
+        method: Method::GetPeers,
+        six: true,
+        read_only: true,
+        text: b"d1:ad2:id20:\xff\xff\xff\xff\xff\xff\xff\xff\xff\xff\xff\xff\xff\xff\xff\xff\xff\xff\xff\xff9:info_hash20:\x00\x00\x00\x00\x00\x00\x00\x00\x00\x00\x00\x00\x00\x00\x00\x00\x00\x00\x00\x004:wantl2:n6ee1:q9:get_peers2:roi1e1:t4:\xa0\x8d\xed\x1a1:y1:qe",
+        ..FROM_ONES
+    },
+];
+
 /// The two queries of a lookup of the network of IPv6, with the transaction id 0x1aed8da0, of a node whose identifier is
 /// twenty bytes ff.
 #[test]
 fn queries_for_contacts_of_ipv6_are_written(rt: HostRuntime) {
-    let own = Id([0xff; 20]);
-    let sought = Id([0; 20]);
-    let mut buf = [0u8; 192];
-    let len = find_node_into(&mut buf, &own, &sought, true, true, &None, 0x1aed8da0);
-    assert_eq!(&rt; len, 113);
-    assert_eq!(&rt;
-        &buf[..len],
-        b"d1:ad2:id20:\xff\xff\xff\xff\xff\xff\xff\xff\xff\xff\xff\xff\xff\xff\xff\xff\xff\xff\xff\xff6:target20:\x00\x00\x00\x00\x00\x00\x00\x00\x00\x00\x00\x00\x00\x00\x00\x00\x00\x00\x00\x004:wantl2:n6ee1:q9:find_node2:roi1e1:t4:\xa0\x8d\xed\x1a1:y1:qe".as_slice()
-    );
-    let len = get_peers_into(&mut buf, &own, &sought, true, true, &None, 0x1aed8da0);
-    assert_eq!(&rt; len, 116);
-    assert_eq!(&rt;
-        &buf[..len],
-        b"d1:ad2:id20:\xff\xff\xff\xff\xff\xff\xff\xff\xff\xff\xff\xff\xff\xff\xff\xff\xff\xff\xff\xff9:info_hash20:\x00\x00\x00\x00\x00\x00\x00\x00\x00\x00\x00\x00\x00\x00\x00\x00\x00\x00\x00\x004:wantl2:n6ee1:q9:get_peers2:roi1e1:t4:\xa0\x8d\xed\x1a1:y1:qe".as_slice()
-    );
+    all_written(&rt, QUERIES);
 }
 
 /// What stands after the last identifier of a query, and what is wanted then.
