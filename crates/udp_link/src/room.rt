@@ -56,9 +56,9 @@ impl Room {
         self.held.is_empty()
     }
 
-    /// Takes one datagram that has come from the socket, without a wait, and says whether it did. Where the room is full or
-    /// there is no memory for one, what has come stays at the socket.
-    fn take(&mut self, alloc: Global, socket: &mut TimedSocket) -> bool
+    /// Takes one datagram that has come from the socket, by way of the buffer, without a wait, and says whether it did. Where
+    /// the room is full or there is no memory for one, what has come stays at the socket.
+    fn take(&mut self, alloc: Global, socket: &mut TimedSocket, buf: &mut [u8; HELD_LENGTH]) -> bool
         ensures took { result ≡ true → OneMore self.old self.new }
         ensures left { result ≡ false → self.new ≡ self.old }
     {
@@ -68,13 +68,15 @@ impl Room {
         let Ok(()) = self.held.reserve(1) else {
             return false;
         };
-        let Ok(mut bytes) = vec![in alloc; 0u8; HELD_LENGTH] else {
+        let Ok(mut bytes) = Vec::with_capacity(alloc, HELD_LENGTH) else {
             return false;
         };
-        let Ok((len, from)) = socket.recv_from(bytes.as_mut_slice(), None) else {
+        let Ok((len, from)) = socket.recv_from(buf, None) else {
             return false;
         };
-        bytes.truncate(len);
+        let Ok(()) = bytes.extend_from_slice(&buf[..len]) else {
+            unreachable!()
+        };
         self.held.push_back_reserved(Held {
             from: addr_of(from),
             bytes,
@@ -82,13 +84,16 @@ impl Room {
         true
     }
 
-    /// Takes what has come from the socket, until nothing more is there, or no room or no memory for it.
+    /// Takes what has come from the socket, until nothing more is there, or no room or no memory for it. It is a function of
+    /// its own, so that a send that takes nothing has no buffer to clear.
+    #[inline(never)]
     #[tactic(auto, using(crate::proofs::Holding::none_more, crate::proofs::Holding::then_one))]
     pub(crate) fn take_all(&mut self, alloc: Global, socket: &mut TimedSocket)
         ensures { More self.old self.new }
     {
+        let mut buf = [0; HELD_LENGTH];
         for _ in 0..MOST_HELD {
-            if !self.take(alloc, socket) {
+            if !self.take(alloc, socket, &mut buf) {
                 return;
             }
         }
