@@ -1,5 +1,6 @@
 -- Keys of the map are told apart as contacts are.
-use Rattle.std.proofs.Common.{◌≡◌, Bool, true, false, ◌&&◌, refl, sym, ap, subst, eqb}
+use Rattle.std.proofs.Common.{◌≡◌, Bool, true, false, ◌&&◌, refl, sym, ap, subst, ◌∙◌, eqb}
+use Rattle.std.specs.Cmp.{IsEquivalence}
 use Rattle.std.specs.Cmp.Lexicographic.{pointwise, bytes_decides}
 use Rattle.std.proofs.lemmas.Bool.{and_parts, and_from, eqb-true, eq-eqb}
 use Rattle.kad_base.specs.declared.types.Ip.{Ip}
@@ -7,7 +8,7 @@ use Rattle.kad_base.specs.declared.types.Ip.TheVariants.{V4, V6}
 use Rattle.kad_base.specs.declared.types.Contact.{Contact}
 use Rattle.kad_base.specs.contracts.types.IpPartialEq.TheImpl as ip_eq
 use Rattle.kad_base.specs.Contacts.{same}
-use Rattle.kad_base.proofs.Contacts.{same_exact, same_itself, same_contact}
+use Rattle.kad_base.proofs.Contacts.{same_exact, same_itself, same_back, same_contact}
 use Rattle.claim_book.specs.Claims.{key_eq}
 
 ip_exact : (a b : Ip) → (ip_eq.ghosts).eq a b ≡ true → a ≡ b
@@ -41,3 +42,10 @@ key_same a b = by (key_eq a b) (same a b) (λ e. subst (λ x. same a x ≡ true)
     by true y f g = sym (f refl)
     by false true f g = g refl
     by false false f g = refl
+
+pub key_equiv : IsEquivalence key_eq
+key_equiv = record {
+  refl = key_itself;
+  symm = λ a b. key_same a b ∙ same_back a b ∙ sym (key_same b a);
+  congr = λ a b c e. ap (λ x. key_eq x c) (key_exact a b e);
+}

@@ -13,7 +13,7 @@ ghost use Rattle.claim_book.specs.State.{added};
 ghost use Rattle.claim_book.specs.Claims.{IsKnown, Keeps};
 ghost use Rattle.claim_book.specs.Index.{IsSettledOnly};
 
-use crate::claim_map::{Claims, learn, mark_asked, mark_ended, mark_taken};
+use crate::claim_map::{Claims, learn, mark_asked, mark_ended, mark_taken, place_of};
 use crate::path::{Path, ask_one, hear_one, lose_one, settle_one, take_one, widen};
 use crate::state::Book;
 use crate::types::{Cause, Entry, Setting};
@@ -30,7 +30,8 @@ impl Book {
             &mut self.owed,
             Entry::Ask { path, contact },
         );
-        mark_asked(&mut self.claims, &contact);
+        let place = place_of(&self.claims, &contact);
+        mark_asked(&mut self.claims, place, &contact);
         ask_one(&mut self.paths[path as usize], &contact);
         self.counts.asked += 1;
     }
@@ -39,6 +40,7 @@ impl Book {
     pub(crate) fn hear(
         &mut self,
         path: u8,
+        place: usize,
         contact: Contact,
         reports: Reports,
     ) -> Result<(), NoMemory>
@@ -56,7 +58,7 @@ impl Book {
             path,
             reports.as_slice(),
         )?;
-        mark_ended(&mut self.claims, &contact);
+        mark_ended(&mut self.claims, place, &contact);
         hear_one(&mut self.paths[path as usize], &contact, reports.as_slice());
         self.owed += 3 * reports.len() + 1;
         put(
@@ -72,7 +74,7 @@ impl Book {
     }
 
     /// The contact that the path asked will not answer. Takes no memory.
-    pub(crate) fn lose(&mut self, path: u8, contact: Contact, cause: Cause)
+    pub(crate) fn lose(&mut self, path: u8, place: usize, contact: Contact, cause: Cause)
         requires { among (open_on path self.old.journal) contact ≡ true }
         ensures { self.new ≡ added self.old (Lost path contact cause) }
     {
@@ -85,7 +87,7 @@ impl Book {
                 cause,
             },
         );
-        mark_ended(&mut self.claims, &contact);
+        mark_ended(&mut self.claims, place, &contact);
         lose_one(&mut self.paths[path as usize], &contact);
         self.counts.failed += 1;
     }
@@ -95,12 +97,19 @@ impl Book {
         requires { Fits self.old.setting self.old.journal (Taken path contact) }
         ensures { self.new ≡ added self.old (Taken path contact) }
     {
+        let place = self.first_place(path);
         put(
             &mut self.journal,
             &mut self.owed,
             Entry::Taken { path, contact },
         );
-        mark_taken(&mut self.claims, self.setting.per_address, path, &contact);
+        mark_taken(
+            &mut self.claims,
+            self.setting.per_address,
+            path,
+            place,
+            &contact,
+        );
         take_one(&mut self.paths[path as usize], &self.setting, &contact);
     }
 
@@ -186,5 +195,5 @@ fn make_room(
 {
     journal.reserve(owed + (3 * reports.len() + 1))?;
     widen(path, reports.len() + 1)?;
-    learn(claims, setting, number, reports)
+    learn(claims, setting, number, reports, &mut path.places)
 }

@@ -29,6 +29,8 @@ pub struct Path {
     pub(crate) opens: usize,
     /// What is not settled, in order.
     pub(crate) queue: VecDeque<Thing>,
+    /// Where the map of claims has the contact of each of these, as a guess.
+    pub(crate) places: VecDeque<usize>,
 }
 
 /// A path that has nothing, with room for all contacts that it may have.
@@ -43,6 +45,7 @@ pub(crate) fn new_path(alloc: Global) -> Result<Path, NoMemory>
         count: 0,
         opens: 0,
         queue: VecDeque::new(alloc),
+        places: VecDeque::new(alloc),
     })
 }
 
@@ -72,6 +75,11 @@ pub(crate) fn first_thing(path: &Path) -> Option<Thing>
     ensures { result ≡ slice_get path.now.queue.items 0 }
 {
     path.queue.front().copied()
+}
+
+/// Where the map of claims has the contact of the first thing that is not settled, as a guess.
+pub(crate) fn first_place(path: &Path) -> usize {
+    path.places.front().copied().unwrap_or(0)
 }
 
 /// One more query is open, of a contact that was never asked.
@@ -126,6 +134,7 @@ pub(crate) fn settle_one(path: &mut Path)
     ensures opens { path.new.opens ≡ path.old.opens }
     ensures queue { path.new.queue.items ≡ drop 1 path.old.queue.items }
 {
+    let _ = path.places.pop_front();
     let _ = path.queue.pop_front();
 }
 
@@ -160,6 +169,7 @@ pub(crate) fn widen(path: &mut Path, more: usize) -> Result<(), NoMemory>
     ensures room { OnOk result (length path.new.queue.items + more
         ≤ deque_capacity path.new.queue) }
 {
+    path.places.reserve(more)?;
     Ok(path.queue.reserve(more)?)
 }
 

@@ -11,7 +11,7 @@ ghost use Rattle.claim_book.specs.Calls.{asker, Counted, IsNotYet, IsSound, Sett
 
 use crate::calls::BookReply;
 use crate::claim_map::{claim_at, is_crowded};
-use crate::path::{first_fresh, first_thing};
+use crate::path::{first_fresh, first_place, first_thing};
 use crate::starting::nearest_lists;
 use crate::state::Book;
 use crate::types::{Counts, Thing};
@@ -21,20 +21,28 @@ use kad_base::{Contact, Contacts, NoMemory, Report, is_usable};
 use lookup_merge::merge;
 
 impl Book {
+    /// Where the map has the contact of the first thing of the path that is not settled, as a guess.
+    pub(crate) fn first_place(&self, path: u8) -> usize {
+        match self.paths.get(path as usize) {
+            Some(here) => first_place(here),
+            None => 0,
+        }
+    }
+
     /// Which path has the contact.
-    pub(crate) fn holder(&self, contact: &Contact) -> Option<u8>
+    pub(crate) fn holder(&self, place: usize, contact: &Contact) -> Option<u8>
         ensures { result ≡ slice_get (holders contact.now self.now.journal) 0 }
     {
-        claim_at(&self.claims, contact).by
+        claim_at(&self.claims, place, contact).by
     }
 
     /// The path that asked a contact which is neither heard nor lost.
-    pub(crate) fn open_path(&self, contact: &Contact) -> Option<u8>
+    pub(crate) fn open_path(&self, place: usize, contact: &Contact) -> Option<u8>
         ensures { MatchOption result (among (open_any self.now.journal) contact.now ≡ false)
             (λ p. (among (open_any self.now.journal) contact.now ≡ true)
             × (p ≡ asker contact.now self.now.journal)) }
     {
-        let claim = claim_at(&self.claims, contact);
+        let claim = claim_at(&self.claims, place, contact);
         if claim.ended {
             return None;
         }
@@ -197,7 +205,7 @@ impl Book {
         ensures { SettleStep self.now.setting self.now.journal path checked.now result }
     {
         let report = checked.report();
-        match self.holder(&report.contact) {
+        match self.holder(self.first_place(path), &report.contact) {
             Some(by) => BookReply::Held { path: by },
             None => {
                 if self.is_full(path) {

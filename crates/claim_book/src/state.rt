@@ -9,7 +9,7 @@ ghost use Rattle.claim_book.specs.declared.types.Entry.TheVariants.{Heard, Lost,
 ghost use Rattle.claim_book.specs.Journal.{unsettled};
 
 use crate::calls::BookReply;
-use crate::claim_map::{Claims, no_claims};
+use crate::claim_map::{Claims, no_claims, place_of};
 use crate::path::Path;
 use crate::starting::{new_paths, seed};
 use crate::types::{Cause, Counts, Entry, Journal, Setting, Thing};
@@ -135,11 +135,12 @@ impl Book {
         ensures after { self.new ≡ after_kept self.old
             (Heard (asker contact self.old.journal) contact reports) result }
     {
-        let path = match self.open_path(&contact) {
+        let place = place_of(&self.claims, &contact);
+        let path = match self.open_path(place, &contact) {
             Some(path) => path,
             None => return BookReply::NotOpen,
         };
-        match self.hear(path, contact, reports) {
+        match self.hear(path, place, contact, reports) {
             Ok(()) => BookReply::Kept,
             Err(NoMemory) => BookReply::NoMemory,
         }
@@ -151,9 +152,10 @@ impl Book {
         ensures after { self.new ≡ after_kept self.old
             (Lost (asker contact self.old.journal) contact cause) result }
     {
-        match self.open_path(&contact) {
+        let place = place_of(&self.claims, &contact);
+        match self.open_path(place, &contact) {
             Some(path) => {
-                self.lose(path, contact, cause);
+                self.lose(path, place, contact, cause);
                 BookReply::Kept
             }
             None => BookReply::NotOpen,

@@ -37,8 +37,8 @@ mark_taken-requires c =
     let s = c.args.setting.now in
     let m = c.loop-i.claims in
     record {
-      known = c.in_ok-make_place.ensures.known;
-      free = λ z. subst (λ n. n < s.per_address) (sym (c.in_ok-make_place.ensures.kept.same_crowds _ _)) (counts_free s.per_address _ c.is_crowded.result c.is_crowded.ensures.1 c.if-is_crowded.false z);
+      known = c.in_ok-place.ensures.known;
+      free = λ z. subst (λ n. n < s.per_address) (sym (c.in_ok-place.ensures.kept.same_crowds _ _)) (counts_free s.per_address _ c.is_crowded.result c.is_crowded.ensures.1 c.if-is_crowded.false z);
     }
 
 pub add_one-requires : goal.add_one-requires
@@ -86,6 +86,6 @@ loop-i-preserved c =
     record {
       items = dealt_items s cs i nobody c.loop-i.journal.items c.put_seed.new.journal.items d free c.loop-i.invariant.items c.put_seed.ensures.items;
       room = (let a = c.put_seed.ensures.room in let b = c.loop-i.invariant.room in omega arith);
-      claims = dealt_map s cs i nobody c.loop-i.claims c.make_place.new.claims c.mark_taken.new.claims d free c.loop-i.invariant.claims c.in_ok-make_place.ensures.kept c.mark_taken.ensures;
+      claims = dealt_map s cs i nobody c.loop-i.claims c.make_place.new.claims c.mark_taken.new.claims d free c.loop-i.invariant.claims c.in_ok-place.ensures.kept c.mark_taken.ensures;
       paths = dealt_paths s cs i nobody c.loop-i.paths.items c.index_mut.result.now c.add_one.new.path d free c.loop-i.invariant.paths c.index_mut.ensures.value e.near e.near_room e.fresh e.fresh_room e.count e.opens c.add_one.ensures.queue;
     }

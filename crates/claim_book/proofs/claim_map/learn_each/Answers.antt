@@ -9,7 +9,7 @@ use Rattle.claim_book.specs.declared.types.Thing.TheVariants.{Told}
 use Rattle.claim_book.specs.declared.claim_map.Claims.{Claims}
 use Rattle.claim_book.specs.Claims.{IsKnown, Keeps}
 use Rattle.claim_book.proofs.Mapped.{known_on}
-use Rattle.claim_book.proofs.claim_map.learn.Goals as goal
+use Rattle.claim_book.proofs.claim_map.learn_each.Goals as goal
 
 keeps_then : (a b c : Claims) → Keeps a b → Keeps b c → Keeps a c
 keeps_then a b c f g = record {
@@ -33,8 +33,8 @@ nothing = record { contact = record { id = record { 0 = [] }; addr = record { ip
 
 pub loop-report-preserved : goal.loop-report-preserved
 loop-report-preserved c = record {
-  kept = keeps_then c.args.claims.now c.loop-report.claims c.learn_report.new.claims c.loop-report.invariant.kept c.in_ok-learn_report.ensures.kept;
-  known = known_more c.args.setting.now c.args.path c.loop-report.claims c.learn_report.new.claims c.args.reports.now c.loop-report.report-index nothing c.loop-report-test.true c.in_ok-learn_report.ensures.kept c.loop-report.invariant.known c.in_ok-learn_report.ensures.known;
+  kept = keeps_then c.args.claims.now c.loop-report.claims c.learn_report.new.claims c.loop-report.invariant.kept c.in_ok-place.ensures.kept;
+  known = known_more c.args.setting.now c.args.path c.loop-report.claims c.learn_report.new.claims c.args.reports.now c.loop-report.report-index nothing c.loop-report-test.true c.in_ok-place.ensures.kept c.loop-report.invariant.known c.in_ok-place.ensures.known;
 }
 
 pub returns-clause-known : goal.returns-clause-known

@@ -2,7 +2,7 @@ use Rattle.std.proofs.Common.{take}
 use Rattle.std.specs.List.{All}
 use Rattle.claim_book.specs.declared.types.Thing.TheVariants.{Told}
 use Rattle.claim_book.specs.Claims.{IsKnown, Keeps}
-use Rattle.claim_book.proofs.claim_map.learn.Given as goal
+use Rattle.claim_book.proofs.claim_map.learn_each.Given as goal
 
 abbrev pub invariant-loop-report : goal.invariant-loop-report
 invariant-loop-report l = record {
