@@ -114,6 +114,7 @@ impl Book {
     }
 
     /// What the path can ask. Takes no memory.
+    #[inline(never)]
     pub(crate) fn next(&mut self, path: u8) -> BookReply
         ensures step { NextStep self.old.setting self.old.journal path result }
         ensures after { self.new ≡ after_next self.old path result }
@@ -129,6 +130,7 @@ impl Book {
     }
 
     /// The contact answered. Takes the memory for all later calls on what it reported.
+    #[inline(never)]
     pub(crate) fn heard(&mut self, contact: Contact, reports: Reports) -> BookReply
         requires { length reports ≤ max_reports }
         ensures step { HeardStep self.old.journal contact result }
@@ -147,6 +149,7 @@ impl Book {
     }
 
     /// The contact will not answer. Takes no memory.
+    #[inline(never)]
     pub(crate) fn lost(&mut self, contact: Contact, cause: Cause) -> BookReply
         ensures step { EndStep self.old.journal contact result }
         ensures after { self.new ≡ after_kept self.old
@@ -163,6 +166,7 @@ impl Book {
     }
 
     /// What the lookup found, where all paths have run out.
+    #[inline(never)]
     pub(crate) fn finish(&mut self) -> BookReply
         ensures step { FinishStep self.old.setting self.old.journal result }
         ensures after { self.new ≡ self.old }
@@ -178,6 +182,7 @@ impl Book {
     }
 
     /// What the path has to settle. Takes no memory.
+    #[inline(never)]
     pub(crate) fn pull(&self, path: u8) -> BookReply
         ensures { PullStep self.now.journal path result }
     {
@@ -189,6 +194,7 @@ impl Book {
     }
 
     /// The contact that answered was noted. Takes no memory.
+    #[inline(never)]
     pub(crate) fn note(&mut self, path: u8, contact: Contact) -> BookReply
         ensures step { NoteStep self.old.journal path contact result }
         ensures after { self.new ≡ after_kept self.old (Note path contact) result }
@@ -201,6 +207,7 @@ impl Book {
     }
 
     /// The report was checked, and is settled by the first rule that fits. Takes no memory.
+    #[inline(never)]
     pub(crate) fn settle(&mut self, path: u8, checked: Checked) -> BookReply
         ensures step { SettleStep self.old.setting self.old.journal path checked result }
         ensures after { self.new ≡ after_settle self.old path checked result }
