@@ -1,7 +1,9 @@
 //! Plain data: identifiers, addresses, contacts, and what a link did.
-ghost use Rattle.std.specs.Prelude.{◌≡◌, ◌↔◌, [], ◌∷◌, IsTrue};
+ghost use Rattle.std.specs.Prelude.{◌≡◌, ◌↔◌, ◌+◌, [], ◌∷◌, ◌++◌, length, IsTrue};
+ghost use Rattle.std.specs.Int.{w16, to_le_bytes};
 ghost use Rattle.kad_base.specs.Contacts.{IsUsable, family, octets, of_family, same};
 
+use crate::bytes::put_bytes;
 use crate::list::Bytes;
 use std::alloc::{AllocError, AllocFailed};
 use std::hash::{Hash, Hasher};
@@ -63,10 +65,46 @@ pub struct Addr {
 
 /// A node as others name it: Kademlia's triple of identifier, address and port. One identifier at two addresses is
 /// two contacts.
-#[derive(Clone, Copy, Debug, PartialEq, Eq, PartialOrd, Ord, Hash)]
+#[derive(Clone, Copy, Debug, PartialEq, Eq, PartialOrd, Ord)]
 pub struct Contact {
     pub id: Id,
     pub addr: Addr,
+}
+
+/// Feeds all of it as one run of bytes, where the derived one would feed the parts one after another. The number of bytes tells
+/// which of the two networks it is.
+impl Hash for Contact {
+    ghost use Rattle.kad_base.specs.Hashes.{contact_bytes, contact_alike};
+
+    ghost hash_input = { λ c. contact_bytes c ∷ [] };
+
+    ghost respects_eq = { contact_alike };
+
+    fn hash<H: Hasher>(&self, state: &mut H) {
+        match &self.addr.ip {
+            Ip::V4(octets) => {
+                let mut run = [0; 26];
+                put_contact(&mut run, self, octets);
+                state.write(&run);
+            }
+            Ip::V6(octets) => {
+                let mut run = [0; 38];
+                put_contact(&mut run, self, octets);
+                state.write(&run);
+            }
+        }
+    }
+}
+
+/// Fills the buffer with identifier, address and port, the port's low byte first.
+#[inline(always)]
+fn put_contact(run: &mut [u8], contact: &Contact, octets: &[u8])
+    requires { length run.old ≡ length contact.now.id.0 + length octets.now + 2 }
+    ensures { run.new ≡ contact.now.id.0 ++ octets.now ++ to_le_bytes w16 contact.now.addr.port }
+{
+    let at = put_bytes(run, 0, &contact.id.0);
+    let at = put_bytes(run, at, octets);
+    put_bytes(run, at, &contact.addr.port.to_le_bytes());
 }
 
 /// What shows that an identifier was made and not chosen (S/Kademlia, section 4.1): the public key that hashes to it,
