@@ -16,6 +16,7 @@ impl Serial for Book {
 
     ghost after = { book_after };
 
+    #[inline(always)]
     fn apply(&mut self, role: u8, call: BookCall) -> BookReply {
         match call {
             BookCall::Next { path } => self.next(path),
