@@ -54,7 +54,7 @@ use Rattle.command_base.proofs.Starting.{admits_usable, usable_told}
 use Rattle.command_base.proofs.Exactly.{added_once, admits_once, input_once, unread_not_bad_of}
 use Rattle.node_commands.proofs.JobLaws.{jobs_carried, jobs_once, named_or_bad, reports_once}
 use Rattle.command_base.proofs.Lawful.{Lawful}
-use Rattle.node_commands.proofs.Serving.{kept_pass}
+use Rattle.serve_commands.proofs.Serving.{kept_pass}
 use Rattle.command_base.proofs.Staged.{Behind, reading_lawful}
 use Rattle.command_base.proofs.Vouched.{vouched_lawful}
 use Rattle.command_base.specs.Vouched.{Vouches}

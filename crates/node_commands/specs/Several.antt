@@ -42,7 +42,7 @@ use Rattle.node_commands.specs.JobLines.{AreGoodJobs, IsBadJob, Naming}
 use Rattle.command_base.specs.Input.{ReadsAll, Admits, Keeps}
 use Rattle.kad_text.specs.Lines.{lines}
 use Rattle.node_commands.specs.JobTexts.{AreJobTexts, AreTextsOf}
-use Rattle.node_commands.specs.Printed.{printed_served, WithTable}
+use Rattle.serve_commands.specs.Printed.{printed_served, WithTable}
 use Rattle.command_base.specs.Promise.{Aim, Promise, ReadingCause, vouched}
 use Rattle.command_base.specs.Shown.{Shown, IsTold, HasFailed}
 use Rattle.command_base.specs.Started.{own_of, drawn_of, IsInRange, seen_call}

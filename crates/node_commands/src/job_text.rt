@@ -1,14 +1,27 @@
 //! What a node prints of each of its jobs: the job, and what the command of that name prints of such a lookup.
-ghost use Rattle.std.specs.Prelude.{◌≡◌, ◌++◌, length, IfOk, OnOk, List, ℕ};
-ghost use Rattle.node_commands.specs.JobTexts.{AreTextsOf, IsFoundText, IsTextOf};
+ghost use Rattle.std.specs.Prelude.{◌≡◌, ◌++◌, length, IfOk, OnOk, List, ℕ, string_bytes};
+ghost use Rattle.node_commands.specs.JobTexts.{AreTextsOf, IsFoundText, IsTextOf, job_text};
 
-use crate::printed::job_line;
 use command_base::printed::{add_line, print};
 use kad_base::{Bytes, List, NoMemory};
 use look_many::{Job, One};
 use lookup_commands::get::first_item;
 use lookup_commands::printed::{print_item, print_peers, print_stored};
-use std::alloc::Global;
+use std::alloc::{AllocError, Global};
+
+/// A job, as it is printed: its word, what is looked up, and the port of an announcement.
+fn job_line(alloc: Global, job: &Job) -> Result<String, AllocError>
+    ensures { IfOk result (λ text. string_bytes text ≡ job_text job.now) }
+{
+    let digits = hex::encode(alloc, job.target().0)?;
+    match job {
+        Job::Find { .. } => format!(in alloc; "find {digits}"),
+        Job::Peers { .. } => format!(in alloc; "peers {digits}"),
+        Job::Announce { port, .. } => format!(in alloc; "announce {digits} {port}"),
+        Job::Get { .. } => format!(in alloc; "get {digits}"),
+        Job::Put { .. } => format!(in alloc; "put {digits}"),
+    }
+}
 
 /// What was found for a job, as the command of that name prints it. Of an announcement and of an item that is stored it counts the
 /// queries that were sent behind the lookup.

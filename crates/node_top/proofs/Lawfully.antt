@@ -9,7 +9,7 @@ use Rattle.kad_words.specs.declared.command.Command.{Command}
 use Rattle.kad_words.specs.declared.command.ServeWords.{ServeWords}
 use Rattle.kad_words.specs.declared.command.Command.TheVariants.{Lookup, Peers, Get, Put, Node, Mint}
 use Rattle.node_top.specs.Commands.{promise_of}
-use Rattle.node_commands.specs.Served.{Hosts}
+use Rattle.serve_commands.specs.Served.{Hosts}
 use Rattle.command_base.specs.Input.{IsGood, Lists}
 use Rattle.command_base.specs.Shown.{Shown}
 use Rattle.command_base.proofs.Lawful.{Lawful}
@@ -19,7 +19,7 @@ use Rattle.plain_commands.proofs.Minting.{mint_lawful}
 use Rattle.table_commands.proofs.Refreshing.{refreshing_lawful}
 use Rattle.node_commands.proofs.Severally.{node_lawful}
 use Rattle.command_base.proofs.Ranges.{look_in_range, table_in_range}
-use Rattle.node_commands.proofs.Serving.{service_in_range}
+use Rattle.serve_commands.proofs.Serving.{service_in_range}
 use Rattle.plain_commands.proofs.Simulating.{simulable}
 use Rattle.command_base.proofs.Staged.{made_lawful}
 

@@ -17,7 +17,7 @@ use Rattle.node_top.proofs.Asking.{takes_by}
 use Rattle.node_top.proofs.Lawfully.{ranged}
 use Rattle.plain_commands.proofs.OneText.{check_once, mint_once, seed_once, simulated_once}
 use Rattle.table_commands.proofs.OneText.{table_text_once, refresh_once}
-use Rattle.node_commands.proofs.OneText.{serve_once}
+use Rattle.serve_commands.proofs.OneText.{serve_once}
 use Rattle.lookup_commands.proofs.OneText.{lookup_once, peers_once, get_once, put_once}
 use Rattle.lookup_core.specs.declared.quest.AskKind.TheVariants.{FindNode}
 

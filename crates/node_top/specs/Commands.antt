@@ -14,7 +14,7 @@ use Rattle.command_base.specs.declared.status.Status.TheVariants.{Usage, NoMemor
 use Rattle.node_top.specs.Asked.{AsksPlain}
 use Rattle.plain_commands.specs.Checked.{check_promise}
 use Rattle.lookup_commands.specs.Got.{get_promise}
-use Rattle.node_commands.specs.Served.{serve_promise}
+use Rattle.serve_commands.specs.Served.{serve_promise}
 use Rattle.node_commands.specs.Several.{node_promise}
 use Rattle.lookup_commands.specs.Looked.{lookup_promise}
 use Rattle.plain_commands.specs.Minted.{mint_promise}

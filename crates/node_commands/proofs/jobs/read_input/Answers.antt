@@ -5,7 +5,7 @@ use Rattle.std.proofs.lemmas.List.{length_push}
 use Rattle.kad_text.specs.Lines.{lines}
 use Rattle.node_commands.proofs.JobLaws.{names_end, turn_more, turn_unsaid}
 use Rattle.kad_text.proofs.LineLaws.{turn_of}
-use Rattle.node_commands.proofs.Serving.{err_is}
+use Rattle.serve_commands.proofs.Serving.{err_is}
 use Rattle.node_commands.proofs.jobs.read_input.Goals as goal
 
 pub loop-i-preserved : goal.loop-i-preserved

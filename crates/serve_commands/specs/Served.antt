@@ -20,7 +20,7 @@ use Rattle.node_serve.specs.declared.setting.ServeSetting.{ServeSetting}
 use Rattle.node_tokens.specs.Tokens.{tokens_by}
 use Rattle.kad_words.specs.declared.command.ServeWords.{ServeWords}
 use Rattle.command_base.specs.Input.{Lists, Admits, Keeps}
-use Rattle.node_commands.specs.Printed.{WithTable, printed_served}
+use Rattle.serve_commands.specs.Printed.{WithTable, printed_served}
 use Rattle.command_base.specs.Promise.{Promise, host_aim, reading}
 use Rattle.command_base.specs.Shown.{Shown}
 use Rattle.command_base.specs.Called.{Called}

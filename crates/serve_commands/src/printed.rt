@@ -1,27 +1,11 @@
 //! What a node prints of itself.
 ghost use Rattle.std.specs.Prelude.{◌≡◌, IfOk, OnOk, string_bytes};
-ghost use Rattle.node_commands.specs.JobTexts.{job_text};
-ghost use Rattle.node_commands.specs.Printed.{IsTableText, WithTable, served_text};
+ghost use Rattle.serve_commands.specs.Printed.{IsTableText, WithTable, served_text};
 
 use contact_table::Table;
 use kad_base::{Bytes, NoMemory};
-use look_many::Job;
 use std::alloc::{AllocError, Global};
 use table_file::write;
-
-/// A job, as it is printed: its word, what is looked up, and the port of an announcement.
-pub fn job_line(alloc: Global, job: &Job) -> Result<String, AllocError>
-    ensures { IfOk result (λ text. string_bytes text ≡ job_text job.now) }
-{
-    let digits = hex::encode(alloc, job.target().0)?;
-    match job {
-        Job::Find { .. } => format!(in alloc; "find {digits}"),
-        Job::Peers { .. } => format!(in alloc; "peers {digits}"),
-        Job::Announce { port, .. } => format!(in alloc; "announce {digits} {port}"),
-        Job::Get { .. } => format!(in alloc; "get {digits}"),
-        Job::Put { .. } => format!(in alloc; "put {digits}"),
-    }
-}
 
 /// The line of a node that served.
 pub fn served_line(alloc: Global, received: u64, replied: u64) -> Result<String, AllocError>

@@ -1,11 +1,11 @@
 use Rattle.std.proofs.Common.{◌≡◌, Err, inl, sym, ◌∙◌, rules}
 use Rattle.kad_base.specs.declared.types.Family.TheVariants.{Four}
-use Rattle.node_commands.proofs.AtOnce.{all_is_some}
+use Rattle.serve_commands.proofs.AtOnce.{all_is_some}
 use Rattle.command_base.proofs.Results.{ok_at, err_at, err_began}
 use Rattle.node_serve.specs.declared.service.ServeFault.TheVariants.{LinkFault}
-use Rattle.node_commands.proofs.Serving.{kept_pass}
+use Rattle.serve_commands.proofs.Serving.{kept_pass}
 use Rattle.command_base.proofs.Starting.{own_told}
-use Rattle.node_commands.proofs.serve.serve.Goals as goal
+use Rattle.serve_commands.proofs.serve.serve.Goals as goal
 
 pub serve_by-table-requires-clause-table : goal.serve_by-table-requires-clause-table
 serve_by-table-requires-clause-table g c κs within = own_told _ _ _ c.in_ok-host.ensures.ok.told ∙ sym c.own_id-own.ensures

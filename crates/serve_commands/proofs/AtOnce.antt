@@ -16,7 +16,7 @@ use Rattle.node_serve.specs.declared.setting.ServeSetting.{ServeSetting}
 use Rattle.serve_batches.specs.ManyServed.{ManyServed, ManyBegun}
 use Rattle.kad_words.specs.declared.command.ServeWords.{ServeWords}
 use Rattle.command_base.specs.Called.{Called}
-use Rattle.node_commands.specs.Served.{setting_of, lasting_of, Served, ServedSome, ServedAtOnce, ServedSomeAtOnce, HasServed, HasServedSome, alone, at_once, some_alone, some_at_once}
+use Rattle.serve_commands.specs.Served.{setting_of, lasting_of, Served, ServedSome, ServedAtOnce, ServedSomeAtOnce, HasServed, HasServedSome, alone, at_once, some_alone, some_at_once}
 use Rattle.command_base.specs.Shown.{Shown}
 use Rattle.command_base.specs.Started.{own_of}
 

@@ -1,9 +1,9 @@
 use Rattle.command_base.specs.Called.{called_with}
-use Rattle.node_commands.specs.Served.{alone, some_alone}
+use Rattle.serve_commands.specs.Served.{alone, some_alone}
 use Rattle.command_base.proofs.Results.{err_then, ok_then}
-use Rattle.node_commands.proofs.Serving.{node_begun, served_all, served_some}
+use Rattle.serve_commands.proofs.Serving.{node_begun, served_all, served_some}
 use Rattle.kad_base.proofs.Failing.{fails_later}
-use Rattle.node_commands.proofs.serve.serve_alone.Goals as goal
+use Rattle.serve_commands.proofs.serve.serve_alone.Goals as goal
 
 pub returns-clause-ok : goal.returns-clause-ok
 returns-clause-ok g c =

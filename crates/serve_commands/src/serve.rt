@@ -9,8 +9,8 @@ ghost use Rattle.command_base.specs.Called.{called_with};
 ghost use Rattle.command_base.specs.Input.{ReadsAtMost};
 ghost use Rattle.command_base.specs.Endings.{EndsUnasked, number_of};
 ghost use Rattle.command_base.specs.Promise.{ReportsCause};
-ghost use Rattle.node_commands.specs.Printed.{WithTable, printed_served};
-ghost use Rattle.node_commands.specs.Served.{AreServiceBounds, HasServed, HasServedSome, Hosts, ServeBegun, ServeText, lasting_of, serve_promise};
+ghost use Rattle.serve_commands.specs.Printed.{WithTable, printed_served};
+ghost use Rattle.serve_commands.specs.Served.{AreServiceBounds, HasServed, HasServedSome, Hosts, ServeBegun, ServeText, lasting_of, serve_promise};
 ghost use Rattle.command_base.specs.Started.{AreTableBounds, own_of};
 ghost use Rattle.command_base.specs.Shown.{shown, shown_link, HasFailed};
 

@@ -24,9 +24,9 @@ use Rattle.command_base.specs.Started.{own_of, seen_call}
 use Rattle.command_base.proofs.Exactly.{admits_once}
 use Rattle.command_base.proofs.OneTable.{new_once}
 use Rattle.command_base.proofs.Repeated.{added_once, lists_once}
-use Rattle.node_commands.specs.Printed.{printed_served}
-use Rattle.node_commands.specs.Served.{AreServiceBounds, Hosts, HasServed, Served, ServeText, alone, at_once, begun_at, lasting_of}
-use Rattle.node_commands.proofs.Saving.{with_once}
+use Rattle.serve_commands.specs.Printed.{printed_served}
+use Rattle.serve_commands.specs.Served.{AreServiceBounds, Hosts, HasServed, Served, ServeText, alone, at_once, begun_at, lasting_of}
+use Rattle.serve_commands.proofs.Saving.{with_once}
 
 -- ---- how much was served
 

@@ -12,7 +12,7 @@ use Rattle.contact_table.specs.SavedState.{state_of as table_of}
 use Rattle.contact_table.specs.TableState.{SoundTable, TableState, unlimited}
 use Rattle.contact_table.specs.declared.saved.Saved.{Saved}
 use Rattle.table_file.specs.SavedText.{FailedOnce, saved_text}
-use Rattle.node_commands.specs.Printed.{IsTableText, WithTable}
+use Rattle.serve_commands.specs.Printed.{IsTableText, WithTable}
 
 -- no live contact of a sound table failed twice
 

@@ -1,5 +1,5 @@
-use Rattle.node_commands.proofs.Serving.{hosted}
-use Rattle.node_commands.proofs.serve.read_host.Goals as goal
+use Rattle.serve_commands.proofs.Serving.{hosted}
+use Rattle.serve_commands.proofs.serve.read_host.Goals as goal
 
 pub returns-clause-ok : goal.returns-clause-ok
 returns-clause-ok g c =

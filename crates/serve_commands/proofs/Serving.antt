@@ -27,9 +27,9 @@ use Rattle.command_base.specs.declared.status.Status.TheVariants.{LinkFault}
 use Rattle.command_base.specs.Endings.{EndsUnasked as EndsBefore}
 use Rattle.command_base.specs.Input.{Lists, Admits, Keeps, IsBadContactLine}
 use Rattle.command_base.specs.Promise.{ReportsCause, HostCause, ReadingCause}
-use Rattle.node_commands.specs.Printed.{served_text}
+use Rattle.serve_commands.specs.Printed.{served_text}
 use Rattle.command_base.specs.Shown.{Shown}
-use Rattle.node_commands.specs.Served.{Hosts, begun_at, lasting_of, Served, ServedSome, AreServiceBounds}
+use Rattle.serve_commands.specs.Served.{Hosts, begun_at, lasting_of, Served, ServedSome, AreServiceBounds}
 use Rattle.command_base.specs.Started.{own_of, seen_call}
 use Rattle.command_base.specs.Called.{Called}
 use Rattle.kad_words.specs.Table.{bits_option, k_option, workers_option, Values, NumberOf}

@@ -1,9 +1,9 @@
 use Rattle.command_base.specs.Called.{called_with}
-use Rattle.node_commands.specs.Served.{at_once, some_at_once}
-use Rattle.node_commands.proofs.AtOnce.{begun_at_once, served_at_once, setting_is}
+use Rattle.serve_commands.specs.Served.{at_once, some_at_once}
+use Rattle.serve_commands.proofs.AtOnce.{begun_at_once, served_at_once, setting_is}
 use Rattle.command_base.proofs.Results.{err_then, ok_then}
 use Rattle.kad_base.proofs.Failing.{fails_later}
-use Rattle.node_commands.proofs.serve.serve_at_once.Goals as goal
+use Rattle.serve_commands.proofs.serve.serve_at_once.Goals as goal
 
 pub returns-clause-ok : goal.returns-clause-ok
 returns-clause-ok g c =

@@ -1,0 +1,4 @@
+pub mod AtOnce
+pub mod OneText
+pub mod Saving
+pub mod Serving
