@@ -60,7 +60,15 @@ pub enum Refused {
 }
 
 /// The keys that were told of each host.
-type Index<K> = BTreeMap<Host, Vec<K>>;
+type Keys<K> = BTreeMap<Host, Vec<K>>;
+
+/// The keys that were told of each host, and how many were told since these were made anew.
+#[derive(Debug, Drop)]
+struct Index<K: Ord> {
+    alloc: Global,
+    keys: Keys<K>,
+    told: usize,
+}
 
 /// Whether a value of the key is held, and is the host's.
 fn is_of_host<K: Ord + Copy + Drop, V: Aged + Hosted<K> + Drop>(
@@ -104,7 +112,7 @@ fn keeps<K: Ord + Copy + Drop, V: Aged + Hosted<K> + Drop>(
 /// Forgets all keys that aren't held any more, and the hosts that have no other.
 fn make_anew<K: Ord + Copy + Drop, V: Aged + Hosted<K> + Drop>(
     held: &AgedMap<K, V>,
-    index: &mut Index<K>,
+    index: &mut Keys<K>,
 )
     ensures { (h : Host) → told_of index.new.entries h
         ≡ cleaned K.cmp V.host held.now index.old.entries h }
@@ -116,18 +124,17 @@ fn make_anew<K: Ord + Copy + Drop, V: Aged + Hosted<K> + Drop>(
 fn bound<K: Ord + Copy + Drop, V: Aged + Hosted<K> + Drop>(
     held: &AgedMap<K, V>,
     index: &mut Index<K>,
-    told: &mut usize,
     per_host: usize,
     most: usize,
 )
-    requires { IsTold K.cmp V.host per_host held.now index.old.entries }
-    ensures { IsTold K.cmp V.host per_host held.now index.new.entries }
+    requires { IsTold K.cmp V.host per_host held.now index.old.keys.entries }
+    ensures { IsTold K.cmp V.host per_host held.now index.new.keys.entries }
 {
-    if *told < most {
+    if index.told < most {
         return;
     }
-    *told = 0;
-    make_anew(held, index);
+    index.told = 0;
+    make_anew(held, &mut index.keys);
 }
 
 /// Adds a key to those of a host, of which those are forgotten that aren't held any more.
@@ -163,7 +170,7 @@ fn add_to<K: Ord + Copy + Drop, V: Aged + Hosted<K> + Drop>(
 
 /// Begins the keys of a host that has none.
 fn begin<K: Ord + Copy + Drop>(
-    index: &mut Index<K>,
+    index: &mut Keys<K>,
     alloc: Global,
     host: Host,
     key: K,
@@ -192,27 +199,25 @@ fn begin<K: Ord + Copy + Drop>(
 fn tell<K: Ord + Copy + Drop, V: Aged + Hosted<K> + Drop>(
     held: &AgedMap<K, V>,
     index: &mut Index<K>,
-    alloc: Global,
     host: Host,
-    told: &mut usize,
     key: K,
     per_host: usize,
     is_full: bool,
 ) -> Result<(), Refused>
     requires { 0 < per_host }
-    ensures ok { OnOk result (Tells index.old.entries host
-        (cleaned K.cmp V.host held.now index.old.entries host ++ key ∷ []) index.new.entries) }
-    ensures err { OnErr result (Tells index.old.entries host
-        (cleaned K.cmp V.host held.now index.old.entries host) index.new.entries) }
+    ensures ok { OnOk result (Tells index.old.keys.entries host
+        (cleaned K.cmp V.host held.now index.old.keys.entries host ++ key ∷ []) index.new.keys.entries) }
+    ensures err { OnErr result (Tells index.old.keys.entries host
+        (cleaned K.cmp V.host held.now index.old.keys.entries host) index.new.keys.entries) }
     ensures crowded { (result ≡ Err Refused.Crowded)
-        ↔ (per_host ≤ length (cleaned K.cmp V.host held.now index.old.entries host)) }
+        ↔ (per_host ≤ length (cleaned K.cmp V.host held.now index.old.keys.entries host)) }
     ensures full { (result ≡ Err Refused.Full)
-        ↔ ((length (cleaned K.cmp V.host held.now index.old.entries host) < per_host) × (is_full ≡ true)) }
+        ↔ ((length (cleaned K.cmp V.host held.now index.old.keys.entries host) < per_host) × (is_full ≡ true)) }
 {
-    *told = told.saturating_add(1);
-    match index.get_mut(&host) {
+    index.told = index.told.saturating_add(1);
+    match index.keys.get_mut(&host) {
         Some(keys) => add_to(held, keys, host, key, per_host, is_full),
-        None => begin(index, alloc, host, key, is_full),
+        None => begin(&mut index.keys, index.alloc, host, key, is_full),
     }
 }
 
@@ -220,17 +225,15 @@ fn tell<K: Ord + Copy + Drop, V: Aged + Hosted<K> + Drop>(
 fn admit<K: Ord + Copy + Drop, V: Aged + Hosted<K> + Drop>(
     held: &AgedMap<K, V>,
     index: &mut Index<K>,
-    alloc: Global,
     host: Host,
-    told: &mut usize,
     key: K,
     per_host: usize,
     most: usize,
 ) -> Result<(), Refused>
-    requires { IsTold K.cmp V.host per_host held.now index.old.entries }
-    ensures told { IsTold K.cmp V.host per_host held.now index.new.entries }
+    requires { IsTold K.cmp V.host per_host held.now index.old.keys.entries }
+    ensures told { IsTold K.cmp V.host per_host held.now index.new.keys.entries }
     ensures ok { OnOk result (IsAdmitted K.cmp V.host (limited per_host held.now) key host
-        index.new.entries) }
+        index.new.keys.entries) }
     ensures absent { OnErr result (¬ Holds K.cmp held.now key) }
     ensures crowded { (result ≡ Err Refused.Crowded)
         ↔ HasNoPlaceAt K.cmp V.host (limited per_host held.now) key host }
@@ -246,16 +249,7 @@ fn admit<K: Ord + Copy + Drop, V: Aged + Hosted<K> + Drop>(
     if per_host == 0 {
         return Err(Refused::Full);
     }
-    tell(
-        held,
-        index,
-        alloc,
-        host,
-        told,
-        key,
-        per_host,
-        held.len() >= most,
-    )
+    tell(held, index, host, key, per_host, held.len() >= most)
 }
 
 /// Values under keys, in order of the keys, as an `AgedMap` holds them, of which at most `per_host` are one host's (0: no
@@ -263,12 +257,9 @@ fn admit<K: Ord + Copy + Drop, V: Aged + Hosted<K> + Drop>(
 /// put, or when the index was told of as many keys as may be held; so it has at most twice as many.
 #[derive(Debug, Drop)]
 pub struct HostedMap<K: Ord, V: Aged + Hosted<K>> {
-    alloc: Global,
     per_host: usize,
     held: AgedMap<K, V>,
     index: Index<K>,
-    /// How many keys the index was told of since it was made anew.
-    told: usize,
 }
 
 impl<K: Ord, V: Aged + Hosted<K>> Model for HostedMap<K, V> {
@@ -278,7 +269,7 @@ impl<K: Ord, V: Aged + Hosted<K>> Model for HostedMap<K, V> {
 
     ghost view = { λ m. limited m.per_host m.held };
 
-    ghost invariant = { λ m. IsTold K.cmp V.host m.per_host m.held m.index.entries };
+    ghost invariant = { λ m. IsTold K.cmp V.host m.per_host m.held m.index.keys.entries };
 }
 
 impl<K: Ord + Copy + Drop, V: Aged + Hosted<K> + Drop> HostedMap<K, V> {
@@ -287,11 +278,13 @@ impl<K: Ord + Copy + Drop, V: Aged + Hosted<K> + Drop> HostedMap<K, V> {
         ensures { result ≡ limited per_host [] }
     {
         HostedMap {
-            alloc,
             per_host,
             held: AgedMap::new(alloc),
-            index: BTreeMap::new(alloc),
-            told: 0,
+            index: Index {
+                alloc,
+                keys: BTreeMap::new(alloc),
+                told: 0,
+            },
         }
     }
 
@@ -359,23 +352,8 @@ impl<K: Ord + Copy + Drop, V: Aged + Hosted<K> + Drop> HostedMap<K, V> {
         ensures few { HasFewOfEach V.host self.new }
     {
         let host = value.host(&key);
-        bound(
-            &self.held,
-            &mut self.index,
-            &mut self.told,
-            self.per_host,
-            most,
-        );
-        match admit(
-            &self.held,
-            &mut self.index,
-            self.alloc,
-            host,
-            &mut self.told,
-            key,
-            self.per_host,
-            most,
-        ) {
+        bound(&self.held, &mut self.index, self.per_host, most);
+        match admit(&self.held, &mut self.index, host, key, self.per_host, most) {
             Ok(()) => {}
             Err(fault) => return Err(fault),
         }

@@ -4,7 +4,7 @@ use crate::replies::{
 };
 use contact_table::Table;
 use kad_base::{Addr, Ip, List, NoMemory, Policy};
-use node_serve::Node;
+use node_serve::{Node, Profile};
 use std::alloc::Global;
 use std::test::Fail;
 use trial_kit::{contact, local};
@@ -34,17 +34,14 @@ const AS_IT_STOOD: [u8; 20] =
 fn long_epoch(alloc: Global) -> Result<Node, NoMemory> {
     let table = Table::new(alloc, OWN, 8, 1)?;
     let proofs = List::new(alloc);
-    Ok(Node::new(
-        alloc,
-        OWN,
-        8,
-        Policy::Plain,
-        table,
-        proofs,
-        &random(),
-        TWO_HOURS,
-        false,
-    ))
+    let profile = Profile {
+        own: OWN,
+        k: 8,
+        policy: Policy::Plain,
+        began: TWO_HOURS,
+        sealed: false,
+    };
+    Ok(Node::new(alloc, profile, table, proofs, &random()))
 }
 
 /// The read-only put of a value, with what stands in front of its token.

@@ -5,7 +5,7 @@ ghost use Rattle.std.specs.Prelude.{◌<◌, ◌≤◌};
 
 use contact_table::Table;
 use kad_base::{Addr, Id, List, NoMemory, Policy};
-use node_serve::{Answered, Node};
+use node_serve::{Answered, Node, Profile};
 use seal_tags::GroupSeal;
 use std::alloc::Global;
 use std::process::Abort;
@@ -42,7 +42,14 @@ fn bare_node(alloc: Global, k: u8, policy: Policy, sealed: bool) -> Result<Node,
 {
     let table = Table::new(alloc, OWN, k, 1)?;
     let proofs = List::new(alloc);
-    Ok(Node::new(alloc, OWN, k, policy, table, proofs, &random(), 0, sealed))
+    let profile = Profile {
+        own: OWN,
+        k,
+        policy,
+        began: 0,
+        sealed,
+    };
+    Ok(Node::new(alloc, profile, table, proofs, &random()))
 }
 
 /// One that tags nothing.

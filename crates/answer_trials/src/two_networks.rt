@@ -6,7 +6,7 @@ use crate::replies::{OWN, TOKEN, first_false, is_silent, joined, node, over, ran
 use crate::whole::{keep, tell};
 use contact_table::Table;
 use kad_base::{List, NoMemory, Policy};
-use node_serve::Node;
+use node_serve::{Node, Profile};
 use std::alloc::Global;
 use std::test::Fail;
 use trial_kit::{contact, contact6, local, number};
@@ -27,17 +27,14 @@ fn mixed(alloc: Global, k: u8) -> Result<Node, NoMemory>
     tell(&mut table, contact6(1));
     tell(&mut table, contact(2));
     let proofs = List::new(alloc);
-    Ok(Node::new(
-        alloc,
-        OWN,
+    let profile = Profile {
+        own: OWN,
         k,
-        Policy::Plain,
-        table,
-        proofs,
-        &random(),
-        0,
-        false,
-    ))
+        policy: Policy::Plain,
+        began: 0,
+        sealed: false,
+    };
+    Ok(Node::new(alloc, profile, table, proofs, &random()))
 }
 
 /// Whether a query for contact 1's identifier that wants this is answered with these `nodes`.
@@ -124,7 +121,14 @@ fn proved(alloc: Global) -> Result<Node, NoMemory> {
     let mut proofs = List::new(alloc);
     keep(&mut table, &mut proofs, 0, contact6(1).addr)?;
     let policy = Policy::Puzzled { c1: 0, c2: 0 };
-    Ok(Node::new(alloc, OWN, 20, policy, table, proofs, &random(), 0, false))
+    let profile = Profile {
+        own: OWN,
+        k: 20,
+        policy,
+        began: 0,
+        sealed: false,
+    };
+    Ok(Node::new(alloc, profile, table, proofs, &random()))
 }
 
 fn names_no_proof(node: &mut Node) -> Option<usize> {

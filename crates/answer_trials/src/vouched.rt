@@ -9,7 +9,7 @@ use crate::replies::{
 use crate::whole::keep;
 use contact_table::Table;
 use kad_base::{List, NoMemory, Policy};
-use node_serve::Node;
+use node_serve::{Node, Profile};
 use std::alloc::Global;
 use std::test::Fail;
 use trial_kit::local;
@@ -310,7 +310,14 @@ fn keeping(alloc: Global) -> Result<Node, NoMemory> {
     let mut proofs = List::new(alloc);
     keep(&mut table, &mut proofs, 0, local(FIRST.port))?;
     let policy = Policy::Puzzled { c1: 0, c2: 0 };
-    Ok(Node::new(alloc, OWN, 8, policy, table, proofs, &random(), 0, false))
+    let profile = Profile {
+        own: OWN,
+        k: 8,
+        policy,
+        began: 0,
+        sealed: false,
+    };
+    Ok(Node::new(alloc, profile, table, proofs, &random()))
 }
 
 fn names_the_kept_proof(node: &mut Node) -> Option<usize> {

@@ -12,7 +12,7 @@ use crate::replies::{
 use contact_table::{Table, TableCall};
 use id_puzzles::{Minted, mint};
 use kad_base::{Addr, Contact, List, NoMemory, Policy, Report, Reports, Serial};
-use node_serve::Node;
+use node_serve::{Node, Profile};
 use std::alloc::Global;
 use std::test::Fail;
 use trial_kit::{contact, local};
@@ -62,7 +62,14 @@ fn proved_node(alloc: Global, bare: u8, n: u8, sealed: bool) -> Result<Node, NoM
         keep(&mut table, &mut proofs, i, local(7000 + u16::from(i)))?;
     }
     let policy = Policy::Puzzled { c1: 0, c2: 0 };
-    Ok(Node::new(alloc, OWN, 20, policy, table, proofs, &random(), 0, sealed))
+    let profile = Profile {
+        own: OWN,
+        k: 20,
+        policy,
+        began: 0,
+        sealed,
+    };
+    Ok(Node::new(alloc, profile, table, proofs, &random()))
 }
 
 /// The first minted identifier.

@@ -9,7 +9,7 @@ use kad_base::{Link, List, NoMemory, Policy};
 use node_serve::{Lasting, ServeCounts, ServeFault, ServeSetting};
 use node_tokens::Tokens;
 use seal_tags::{GroupSeal, Seal};
-use serve_batches::serve_many;
+use serve_batches::{Duty, serve_many};
 use std::alloc::Global;
 use std::sync::Wait;
 use std::test::Fail;
@@ -62,17 +62,12 @@ pub fn serve<R: AllocGlobal + Threads + Wait + Sync, G: Seal + Sync>(
     let alloc = rt.alloc();
     let table = Table::new(alloc, OWN, 8, 1)?;
     let began = link.now();
-    let (_, answer) = serve_many(
-        rt,
-        alloc,
-        link,
-        seal,
-        setting(alloc, sealed),
-        table,
-        began,
+    let duty = Duty {
         workers,
+        began,
         lasting,
-    );
+    };
+    let (_, answer) = serve_many(rt, alloc, link, seal, setting(alloc, sealed), table, duty);
     Ok(answer)
 }
 

@@ -9,13 +9,16 @@ use Rattle.kad_base.specs.declared.types.Event.{Event}
 use Rattle.kad_base.specs.declared.types.Event.TheVariants.{Now}
 use Rattle.kad_base.specs.Outside.{Grows}
 use Rattle.id_puzzles.specs.Drawn.{WordsState}
-use Rattle.turn_book.specs.Turns.{TurnState, AreAll, fresh}
+use Rattle.turn_book.specs.Turns.{TurnState, fresh}
 use Rattle.turn_book.proofs.Ended.{all_in_row}
 use Rattle.contact_table.specs.TableState.{TableState}
 use Rattle.node_serve.specs.declared.setting.ServeSetting.{ServeSetting}
 use Rattle.node_serve.specs.Lasting.{end_of}
-use Rattle.serve_crew.specs.Hands.{Hands, SameHands, TablePass, PeersPass, ItemsPass, hands}
-use Rattle.lookup_crowd.specs.declared.host.Desk.{Desk}
+use Rattle.serve_crew.specs.Hands.{Hands, SameHands, TablePass, PeersPass, ItemsPass}
+use Rattle.serve_crew.specs.Opening.{HaveAll, HaveRoles}
+use Rattle.serve_crew.specs.declared.turns.Turns.{Turns}
+use Rattle.serve_crew.specs.declared.turns.Rows.{Rows}
+use Rattle.serve_crew.specs.declared.desk.Desk.{Desk}
 use Rattle.lookup_crowd.specs.declared.seeker.Seeker.{Seeker}
 use Rattle.lookup_crowd.specs.inner.Crowd.{stand}
 use Rattle.lookup_crowd.specs.inner.ManySteps.{IsOfDesk, IsSeated, IsRunOut}
@@ -26,7 +29,7 @@ use Rattle.look_many.specs.declared.finish.Done.{Done}
 use Rattle.look_many.specs.declared.found.ManySetting.{ManySetting}
 use Rattle.look_many.specs.declared.found.One.{One}
 use Rattle.look_many.specs.declared.job.Job.{Job}
-use Rattle.look_many.specs.inner.Seats.{IsSeekerFor, IsOverBook, IsDone, IsHanded, IsOutcome, done_of, RolesFrom, Rows, rows, AreBack, IsAlone}
+use Rattle.look_many.specs.inner.Seats.{IsSeekerFor, IsOverBook, IsDone, IsHanded, IsOutcome, done_of, RolesFrom, AreBack, IsAlone, new_host}
 use Rattle.look_many.specs.inner.Ends.{Task, Starts}
 use Rattle.look_many.proofs.Starting.{seated_at, roles_at}
 
@@ -48,9 +51,9 @@ seated_through server setting T jobs ks vs is seekers passes =
     let all : map (λ (k : Seeker). k.pass) vs ≡ map (fresh T.id) (range_with_len 1 (length vs)) = own ∙ ap (λ m. map (fresh T.id) (range_with_len 1 m)) (sym count) in
     record { seekers = seen; count = count; passes = own; own = seated_at T 1 vs all; roles = roles_at T 1 vs all }
 
-pub starts_at : (k : Task) (r : Rows) (words : WordsState) (told told' : Option (List Event)) (vs : List Seeker) (host : Hands) (moment : ℕ) (end : Option ℕ) → Seated k.server k.setting r.tables k.jobs vs → host ≡ hands (fresh r.tables.id 0) (fresh r.stores.id 0) (fresh r.shelves.id 0) → end ≡ end_of moment k.lasting.minutes → Grows told told' (λ events. events ≡ Now moment ∷ [])
-    → Starts k r words told (stand vs (record { moment = moment; receives = 0; foreign = 0; left = k.lasting.receives; end = end; received = 0; replied = 0; unsaid = 0 }) words host told')
-starts_at k r words told told' vs host moment end s is_host is_end now_told = record {
+pub starts_at : (k : Task) (turns : Turns) (words : WordsState) (told told' : Option (List Event)) (vs : List Seeker) (host : Hands) (moment : ℕ) (end : Option ℕ) → Seated k.server k.setting turns.table k.jobs vs → host ≡ new_host turns → end ≡ end_of moment k.lasting.minutes → Grows told told' (λ events. events ≡ Now moment ∷ [])
+    → Starts k turns words told (stand vs (record { moment = moment; receives = 0; foreign = 0; left = k.lasting.receives; end = end; received = 0; replied = 0; unsaid = 0 }) words host told')
+starts_at k turns words told told' vs host moment end s is_host is_end now_told = record {
   seekers = s.seekers;
   passes = s.passes;
   host = is_host;
@@ -60,7 +63,7 @@ starts_at k r words told told' vs host moment end s is_host is_end now_told = re
 }
 
 -- the node that serves calls in the role of the driver, and goes on to
-pub of_desk : (desk : Desk) (host host' : Hands) → host ≡ hands (fresh desk.table.now.id 0) (fresh desk.peers.now.id 0) (fresh desk.items.now.id 0) → SameHands host host' → IsOfDesk desk host'
+pub of_desk : (desk : Desk) (host host' : Hands) → host ≡ new_host desk.turns.now → SameHands host host' → IsOfDesk desk host'
 of_desk desk host host' is same = record {
   driver = same.table.role ∙ ap (λ (h : Hands). h.table.role) is;
   table = same.table.turn ∙ ap (λ (h : Hands). h.table.turn) is;
@@ -68,7 +71,7 @@ of_desk desk host host' is same = record {
   items = same.items.turn ∙ ap (λ (h : Hands). h.items.turn) is;
 }
 
-pub alone : (desk : Desk) (host host' : Hands) → host ≡ hands (fresh desk.table.now.id 0) (fresh desk.peers.now.id 0) (fresh desk.items.now.id 0) → SameHands host host' → IsAlone host'
+pub alone : (desk : Desk) (host host' : Hands) → host ≡ new_host desk.turns.now → SameHands host host' → IsAlone host'
 alone desk host host' is same = record {
   peers = same.peers.role ∙ ap (λ (h : Hands). h.peers.role) is;
   items = same.items.role ∙ ap (λ (h : Hands). h.items.role) is;
@@ -105,30 +108,26 @@ returned_through server setting T jobs n ks vs ls s is room len seats =
 
 -- ---- the passes are put back
 
-module _ (desk : Desk) (ls : List Seeker) (host : Hands) (own : IsOfDesk desk host) (row : List TablePass) (peers_row : List PeersPass) (items_row : List ItemsPass)
-    (row_is : row ≡ host.table ∷ map (λ (k : Seeker). k.pass) (reverse ls)) (peers_is : peers_row ≡ host.peers ∷ []) (items_is : items_row ≡ host.items ∷ []) where
-  pub are_back : IsAlone host → RolesFrom 1 ls → AreBack (rows desk.table.now desk.peers.now desk.items.now row peers_row items_row) host ls
-  are_back a roles = record { tables = row_is; peers = peers_is; items = items_is; driver = own.driver; driver_peers = a.peers; driver_items = a.items; roles = roles }
+module _ (desk : Desk) (ls : List Seeker) (host : Hands) (own : IsOfDesk desk host) (rows : Rows) (table_is : rows.table.passes ≡ host.table ∷ map (λ (k : Seeker). k.pass) (reverse ls)) (peers_is : rows.peers.passes ≡ host.peers ∷ []) (items_is : rows.items.passes ≡ host.items ∷ []) where
+  pub are_back : IsAlone host → RolesFrom 1 ls → AreBack rows host ls
+  are_back a roles = record { table = table_is; peers = peers_is; items = items_is; driver = own.driver; driver_peers = a.peers; driver_items = a.items; roles = roles }
 
-  pub tables_back : AllByRecursion (IsSeated desk.table.now) ls → desk.table.now.roles ≡ length ls + 1 → AreAll desk.table.now row
-  tables_back seated roles = record {
-    count = (let l = ap length row_is in let m = length-map (reverse ls) (λ (k : Seeker). k.pass) in let r = length-reverse ls in omega (arith, l, m, r, roles));
-    own = All-same (λ (p : TablePass). p.turn ≡ desk.table.now.id) row (host.table ∷ map (λ (k : Seeker). k.pass) (reverse ls)) row_is
-        (All-cons (λ (p : TablePass). p.turn ≡ desk.table.now.id) host.table (map (λ (k : Seeker). k.pass) (reverse ls)) own.table
-        (all_in_row (λ (k : Seeker). k.pass) ls (λ (p : TablePass). p.turn ≡ desk.table.now.id) (All-from_recursion (IsSeated desk.table.now) ls seated)));
-  }
-
-  pub peers_back : desk.peers.now.roles ≡ 1 → AreAll desk.peers.now peers_row
-  peers_back roles = record {
-    count = (let l = ap length peers_is in omega (arith, l, roles));
-    own = All-same (λ (p : PeersPass). p.turn ≡ desk.peers.now.id) peers_row (host.peers ∷ []) peers_is (All-cons (λ (p : PeersPass). p.turn ≡ desk.peers.now.id) host.peers [] own.peers (All-nil (λ (p : PeersPass). p.turn ≡ desk.peers.now.id)));
-  }
-
-  pub items_back : desk.items.now.roles ≡ 1 → AreAll desk.items.now items_row
-  items_back roles = record {
-    count = (let l = ap length items_is in omega (arith, l, roles));
-    own = All-same (λ (p : ItemsPass). p.turn ≡ desk.items.now.id) items_row (host.items ∷ []) items_is (All-cons (λ (p : ItemsPass). p.turn ≡ desk.items.now.id) host.items [] own.items (All-nil (λ (p : ItemsPass). p.turn ≡ desk.items.now.id)));
-  }
+  pub have_all : AllByRecursion (IsSeated desk.turns.now.table) ls → HaveRoles (length ls + 1) 1 desk.turns.now → HaveAll desk.turns.now rows
+  have_all seated roles =
+      let T = desk.turns.now.table in
+      let many = roles.table in
+      let own_table : TablePass → Type 0 = λ p. p.turn ≡ T.id in
+      let own_peers : PeersPass → Type 0 = λ p. p.turn ≡ desk.turns.now.peers.id in
+      let own_items : ItemsPass → Type 0 = λ p. p.turn ≡ desk.turns.now.items.id in
+      record {
+        table = record {
+          count = (let l = ap length table_is in let m = length-map (reverse ls) (λ (k : Seeker). k.pass) in let r = length-reverse ls in omega (arith, l, m, r, many));
+          own = All-same own_table rows.table.passes (host.table ∷ map (λ (k : Seeker). k.pass) (reverse ls)) table_is
+              (All-cons own_table host.table (map (λ (k : Seeker). k.pass) (reverse ls)) own.table (all_in_row (λ (k : Seeker). k.pass) ls own_table (All-from_recursion (IsSeated T) ls seated)));
+        };
+        peers = record { count = ap length peers_is ∙ sym roles.peers; own = All-same own_peers rows.peers.passes (host.peers ∷ []) peers_is (All-cons own_peers host.peers [] own.peers (All-nil own_peers)) };
+        items = record { count = ap length items_is ∙ sym roles.items; own = All-same own_items rows.items.passes (host.items ∷ []) items_is (All-cons own_items host.items [] own.items (All-nil own_items)) };
+      }
 
 -- ---- what is left of them
 

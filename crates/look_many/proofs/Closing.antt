@@ -17,37 +17,26 @@ use Rattle.peer_store.specs.Peers.{PeersState, no_peers as empty_peers}
 use Rattle.peer_store.specs.PeersStep.{PeersMay, PeersStep, peers_after}
 use Rattle.item_store.specs.Items.{ItemsState, no_items as empty_items}
 use Rattle.item_store.specs.ItemSteps.{ItemMay, ItemStep, item_after}
+use Rattle.serve_crew.specs.Opening.{AreClosed, Opens}
+use Rattle.serve_crew.specs.declared.turns.Turns.{Turns}
+use Rattle.serve_crew.specs.declared.turns.Rows.{Rows}
 use Rattle.serve_crew.specs.Hands.{TablePass}
 use Rattle.lookup_crowd.specs.declared.seeker.ManyFault.{ManyFault}
 use Rattle.lookup_crowd.specs.declared.seeker.ManyFault.TheVariants.{NoMemory}
 use Rattle.look_many.specs.declared.found.Many.{Many}
 use Rattle.look_many.specs.ManyLooked.{ManyLooked, ManyStopped, NoneBegan, IsWithinLimits}
-use Rattle.look_many.specs.inner.Seats.{Rows}
 use Rattle.look_many.specs.inner.Ends.{Task, FoundBack, StoppedBack}
 use Rattle.look_many.proofs.Promised.{many_looked, many_began}
 
 pub none_began : (before after : TableState) (words : WordsState) (told : Option (List Event)) → after ≡ before → NoneBegan before after words words told told NoMemory
 none_began before after words told is = record { fault_is = refl; no_events = grows_none told (λ events. events ≡ []) refl; same_words = refl; same_table = is }
 
-none_of : {A : Type 0} (xs : List A) → All (λ (x : A). ⊥) xs → xs ≡ []
-none_of [] h = refl
-none_of (x ∷ xs) h = absurd (All-head (λ _. ⊥) x xs h)
-
--- the table's turn was opened, and closed again
-pub opened_alone : (turn : TurnState TableState) (row : List TablePass) (before after : TableState) (calls : ℕ) (words : WordsState) (told : Option (List Event)) → Closed TableMay TableStep table_after turn row after calls → turn.start ≡ before → row ≡ all_fresh turn
-    → NoneBegan before after words words told told NoMemory
-opened_alone turn row before after calls words told t start is =
-    none_began before after words told
-    (t.left ∙ ap (left_by table_after turn.start) (none_of t.run (none_made TableMay TableStep table_after turn row after calls t turn.roles refl is (λ (m : Made TableCall TableReply). ⊥))) ∙ start)
-
-module _ (k : Task) (r : Rows) (before after : TableState) (table_calls : ℕ) (held : PeersState) (peers_calls : ℕ) (shelf : ItemsState) (items_calls : ℕ)
-    (t : Closed TableMay TableStep table_after r.tables r.table_row after table_calls) (p : Closed PeersMay PeersStep peers_after r.stores r.peers_row held peers_calls) (i : Closed ItemMay ItemStep item_after r.shelves r.items_row shelf items_calls)
-    (start : r.tables.start ≡ before) (no_peers : r.stores.start ≡ empty_peers before.per_address) (no_items : r.shelves.start ≡ empty_items before.per_address) (limits : IsWithinLimits k.setting) (small : k.server.k < 256)
+module _ (k : Task) (turns : Turns) (rows : Rows) (before after : TableState) (opened : Opens before turns) (closed : AreClosed turns rows after) (limits : IsWithinLimits k.setting) (small : k.server.k < 256)
     (words words' : WordsState) (told told' : Option (List Event)) where
-  pub ok_looked : (x : Result Many ManyFault) → IfOk x (FoundBack k r words words' told told') → IfOk x (ManyLooked k.accepts k.tags k.server k.setting k.jobs k.lasting before after words words' told told')
-  ok_looked (Ok many) h = many_looked k r before after table_calls held peers_calls shelf items_calls t p i start no_peers no_items limits small words words' told told' many h
+  pub ok_looked : (x : Result Many ManyFault) → IfOk x (FoundBack k turns rows words words' told told') → IfOk x (ManyLooked k.accepts k.tags k.server k.setting k.jobs k.lasting before after words words' told told')
+  ok_looked (Ok many) h = many_looked k turns rows before after opened closed limits small words words' told told' many h
   ok_looked (Err fault) h = tt
 
-  pub err_stopped : (x : Result Many ManyFault) → IfErr x (StoppedBack k r words words' told told') → IfErr x (ManyStopped k.accepts k.tags k.server k.setting k.jobs k.lasting before after words words' told told')
+  pub err_stopped : (x : Result Many ManyFault) → IfErr x (StoppedBack k turns rows words words' told told') → IfErr x (ManyStopped k.accepts k.tags k.server k.setting k.jobs k.lasting before after words words' told told')
   err_stopped (Ok many) h = tt
-  err_stopped (Err fault) h = inl (many_began k r before after table_calls held peers_calls shelf items_calls t p i start no_peers no_items limits small words words' told told' fault h)
+  err_stopped (Err fault) h = inl (many_began k turns rows before after opened closed limits small words words' told told' fault h)

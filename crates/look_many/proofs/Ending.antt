@@ -27,12 +27,15 @@ use Rattle.item_store.specs.declared.calls.ItemCall.{ItemCall}
 use Rattle.item_store.specs.declared.calls.ItemReply.{ItemReply}
 use Rattle.node_serve.specs.Calls.{Did, HasRoom, HasItemRoom}
 use Rattle.node_serve.specs.declared.setting.ServeSetting.{ServeSetting}
+use Rattle.serve_crew.specs.Opening.{AreClosed, Opens}
+use Rattle.serve_crew.specs.declared.turns.Turns.{Turns}
+use Rattle.serve_crew.specs.declared.turns.Rows.{Rows}
 use Rattle.serve_crew.specs.Hands.{Hands, TablePass, at_table, at_peers, at_items}
 use Rattle.serve_crew.specs.Runs.{Ran, HadAllMemory, AreCalls}
 use Rattle.lookup_crowd.specs.declared.seeker.Seeker.{Seeker}
 use Rattle.look_many.specs.Job.{target_of}
 use Rattle.look_many.specs.ManyLooked.{seeds_for, seeks, AreOfDriver}
-use Rattle.look_many.specs.inner.Seats.{RolesFrom, Rows, AreBack}
+use Rattle.look_many.specs.inner.Seats.{RolesFrom, AreBack}
 
 -- ---- the calls for the seeds, before the turn is opened
 
@@ -108,59 +111,57 @@ module _ {S C R : Type 0} (may : ℕ → C → Type 0) (step : S → ℕ → C �
   calls_of_one : calls_of pass.role closed.run ≡ mine pass
   calls_of_one = All-head (λ (x : PassState C R). calls_of x.role closed.run ≡ mine x) pass [] (subst (All (λ (x : PassState C R). calls_of x.role closed.run ≡ mine x)) is closed.in_order)
 
-module _ (server : ServeSetting) (jobs : List Job) (r : Rows) (before after : TableState) (table_calls : ℕ) (held : PeersState) (peers_calls : ℕ) (shelf : ItemsState) (items_calls : ℕ)
-    (t : Closed TableMay TableStep table_after r.tables r.table_row after table_calls) (p : Closed PeersMay PeersStep peers_after r.stores r.peers_row held peers_calls) (i : Closed ItemMay ItemStep item_after r.shelves r.items_row shelf items_calls)
-    (start : r.tables.start ≡ before) (no_peers : r.stores.start ≡ empty_peers before.per_address) (no_items : r.shelves.start ≡ empty_items before.per_address) (host : Hands) (seekers : List Seeker) (back : AreBack r host seekers) (count : length seekers ≡ length jobs) where
+module _ (server : ServeSetting) (jobs : List Job) (turns : Turns) (rows : Rows) (before after : TableState) (opened : Opens before turns) (closed : AreClosed turns rows after) (host : Hands) (seekers : List Seeker) (back : AreBack rows host seekers) (count : length seekers ≡ length jobs) where
   -- what holds of each pass's own calls holds of all calls on the table
-  all_tables : (P : Made TableCall TableReply → Type 0) → All P (mine host.table) → All (λ (k : Seeker). All P (mine k.pass)) seekers → All P t.run
+  all_tables : (P : Made TableCall TableReply → Type 0) → All P (mine host.table) → All (λ (k : Seeker). All P (mine k.pass)) seekers → All P closed.table.run
   all_tables P one each =
-      all_run TableMay TableStep table_after r.tables r.table_row after table_calls t P
-      (All-same (λ (x : TablePass). All P (mine x)) r.table_row (host.table ∷ map (λ (k : Seeker). k.pass) (reverse seekers)) back.tables
+      all_run TableMay TableStep table_after turns.table rows.table.passes after closed.table_calls closed.table P
+      (All-same (λ (x : TablePass). All P (mine x)) rows.table.passes (host.table ∷ map (λ (k : Seeker). k.pass) (reverse seekers)) back.table
       (All-cons (λ (x : TablePass). All P (mine x)) host.table (map (λ (k : Seeker). k.pass) (reverse seekers)) one
       (all_in_row (λ (k : Seeker). k.pass) seekers (λ (x : TablePass). All P (mine x)) each)))
 
   pub ended_ran : Ran (suc (length jobs)) before after
   unfolding seek_made
   ended_ran = record {
-    tables = sought server before jobs ++ t.run;
-    tables_legal = sought_run server before jobs t.run (subst (λ b. IsRun TableMay TableStep table_after b t.run) start t.legal);
-    tables_roles = All-append (λ (m : Made TableCall TableReply). m.role < suc (length jobs)) (sought server before jobs) t.run
+    tables = sought server before jobs ++ closed.table.run;
+    tables_legal = sought_run server before jobs closed.table.run (subst (λ b. IsRun TableMay TableStep table_after b closed.table.run) opened.table closed.table.legal);
+    tables_roles = All-append (λ (m : Made TableCall TableReply). m.role < suc (length jobs)) (sought server before jobs) closed.table.run
         (sought_all (λ (m : Made TableCall TableReply). m.role < suc (length jobs)) server before jobs (λ x. omega arith))
         (all_tables (λ (m : Made TableCall TableReply). m.role < suc (length jobs)) (mine_few (suc (length jobs)) host.table (let d = back.driver in omega (arith, d)))
         (λ k d lt. mine_few (suc (length jobs)) (get_or seekers k d).pass (let role = role_at 1 seekers back.roles k d lt in omega (arith, role, lt, count))));
-    leaves = t.left ∙ ap (λ b. left_by table_after b t.run) start ∙ sym (sought_leaves server before jobs t.run);
-    stores = p.run;
-    stores_legal = subst (λ b. IsRun PeersMay PeersStep peers_after b p.run) no_peers p.legal;
-    stores_roles = one_row PeersMay PeersStep peers_after r.stores r.peers_row host.peers held peers_calls p back.peers (suc (length jobs)) (let d = back.driver_peers in omega (arith, d));
-    shelves = i.run;
-    shelves_legal = subst (λ b. IsRun ItemMay ItemStep item_after b i.run) no_items i.legal;
-    shelves_roles = one_row ItemMay ItemStep item_after r.shelves r.items_row host.items shelf items_calls i back.items (suc (length jobs)) (let d = back.driver_items in omega (arith, d));
+    leaves = closed.table.left ∙ ap (λ b. left_by table_after b closed.table.run) opened.table ∙ sym (sought_leaves server before jobs closed.table.run);
+    stores = closed.peers.run;
+    stores_legal = subst (λ b. IsRun PeersMay PeersStep peers_after b closed.peers.run) opened.peers closed.peers.legal;
+    stores_roles = one_row PeersMay PeersStep peers_after turns.peers rows.peers.passes host.peers closed.held closed.peers_calls closed.peers back.peers (suc (length jobs)) (let d = back.driver_peers in omega (arith, d));
+    shelves = closed.items.run;
+    shelves_legal = subst (λ b. IsRun ItemMay ItemStep item_after b closed.items.run) opened.items closed.items.legal;
+    shelves_roles = one_row ItemMay ItemStep item_after turns.items rows.items.passes host.items closed.shelf closed.items_calls closed.items back.items (suc (length jobs)) (let d = back.driver_items in omega (arith, d));
   }
 
   pub ended_of_driver : AreOfDriver (suc (length jobs)) before after ended_ran
   unfolding ended_ran
   ended_of_driver = record {
-    stores = subst (λ n. All (λ (m : Made PeerCall PeerReply). m.role ≡ n) p.run) back.driver_peers (role_of_one PeersMay PeersStep peers_after r.stores r.peers_row host.peers held peers_calls p back.peers);
-    shelves = subst (λ n. All (λ (m : Made ItemCall ItemReply). m.role ≡ n) i.run) back.driver_items (role_of_one ItemMay ItemStep item_after r.shelves r.items_row host.items shelf items_calls i back.items);
+    stores = subst (λ n. All (λ (m : Made PeerCall PeerReply). m.role ≡ n) closed.peers.run) back.driver_peers (role_of_one PeersMay PeersStep peers_after turns.peers rows.peers.passes host.peers closed.held closed.peers_calls closed.peers back.peers);
+    shelves = subst (λ n. All (λ (m : Made ItemCall ItemReply). m.role ≡ n) closed.items.run) back.driver_items (role_of_one ItemMay ItemStep item_after turns.items rows.items.passes host.items closed.shelf closed.items_calls closed.items back.items);
   }
 
   -- the driver's calls
   pub driver_calls_are : (did : List Did) → mine host.table ≡ flat_map (at_table 0) did → mine host.peers ≡ flat_map (at_peers 0) did → mine host.items ≡ flat_map (at_items 0) did → AreCalls (suc (length jobs)) before after ended_ran 0 (map (seeks server before) jobs ++ did)
   unfolding ended_ran
   driver_calls_are did at_t at_p at_i = record {
-    tables = filter-append (λ (m : Made TableCall TableReply). m.role == 0) (sought server before jobs) t.run
-        ∙ ap (λ l. l ++ calls_of 0 t.run) (sought_driver server before jobs)
+    tables = filter-append (λ (m : Made TableCall TableReply). m.role == 0) (sought server before jobs) closed.table.run
+        ∙ ap (λ l. l ++ calls_of 0 closed.table.run) (sought_driver server before jobs)
         ∙ ap (λ l. flat_map (at_table 0) (map (seeks server before) jobs) ++ l) (driver_at ∙ at_t)
         ∙ sym (flat_map-append (at_table 0) (map (seeks server before) jobs) did);
-    stores = ap (λ n. calls_of n p.run) (sym back.driver_peers) ∙ calls_of_one PeersMay PeersStep peers_after r.stores r.peers_row host.peers held peers_calls p back.peers ∙ at_p
+    stores = ap (λ n. calls_of n closed.peers.run) (sym back.driver_peers) ∙ calls_of_one PeersMay PeersStep peers_after turns.peers rows.peers.passes host.peers closed.held closed.peers_calls closed.peers back.peers ∙ at_p
         ∙ sym (flat_map-append (at_peers 0) (map (seeks server before) jobs) did ∙ ap (λ l. l ++ flat_map (at_peers 0) did) (no_peers_sought jobs));
-    shelves = ap (λ n. calls_of n i.run) (sym back.driver_items) ∙ calls_of_one ItemMay ItemStep item_after r.shelves r.items_row host.items shelf items_calls i back.items ∙ at_i
+    shelves = ap (λ n. calls_of n closed.items.run) (sym back.driver_items) ∙ calls_of_one ItemMay ItemStep item_after turns.items rows.items.passes host.items closed.shelf closed.items_calls closed.items back.items ∙ at_i
         ∙ sym (flat_map-append (at_items 0) (map (seeks server before) jobs) did ∙ ap (λ l. l ++ flat_map (at_items 0) did) (no_items_sought jobs));
   }
     where
-      driver_at : calls_of 0 t.run ≡ mine host.table
-      driver_at = ap (λ n. calls_of n t.run) (sym back.driver)
-          ∙ All-head (λ (x : TablePass). calls_of x.role t.run ≡ mine x) host.table (map (λ (k : Seeker). k.pass) (reverse seekers)) (subst (All (λ (x : TablePass). calls_of x.role t.run ≡ mine x)) back.tables t.in_order)
+      driver_at : calls_of 0 closed.table.run ≡ mine host.table
+      driver_at = ap (λ n. calls_of n closed.table.run) (sym back.driver)
+          ∙ All-head (λ (x : TablePass). calls_of x.role closed.table.run ≡ mine x) host.table (map (λ (k : Seeker). k.pass) (reverse seekers)) (subst (All (λ (x : TablePass). calls_of x.role closed.table.run ≡ mine x)) back.table closed.table.in_order)
 
       no_peers_sought : (ts : List Job) → flat_map (at_peers 0) (map (seeks server before) ts) ≡ []
       no_peers_sought [] = refl
@@ -175,11 +176,11 @@ module _ (server : ServeSetting) (jobs : List Job) (r : Rows) (before after : Ta
   unfolding ended_ran
   lookup_calls k d lt =
       let there : k < length seekers = omega (arith, lt, count) in
-      filter-append (λ (m : Made TableCall TableReply). m.role == suc k) (sought server before jobs) t.run
-      ∙ ap (λ l. l ++ calls_of (suc k) t.run) (sought_other server before jobs k)
-      ∙ ap (λ n. calls_of n t.run) (sym (role_at 1 seekers back.roles k d there ∙ omega arith))
-      ∙ each_in_row (λ (x : Seeker). x.pass) seekers (λ (x : TablePass). calls_of x.role t.run ≡ mine x)
-      (All-tail (λ (x : TablePass). calls_of x.role t.run ≡ mine x) host.table (map (λ (x : Seeker). x.pass) (reverse seekers)) (subst (All (λ (x : TablePass). calls_of x.role t.run ≡ mine x)) back.tables t.in_order)) k d there
+      filter-append (λ (m : Made TableCall TableReply). m.role == suc k) (sought server before jobs) closed.table.run
+      ∙ ap (λ l. l ++ calls_of (suc k) closed.table.run) (sought_other server before jobs k)
+      ∙ ap (λ n. calls_of n closed.table.run) (sym (role_at 1 seekers back.roles k d there ∙ omega arith))
+      ∙ each_in_row (λ (x : Seeker). x.pass) seekers (λ (x : TablePass). calls_of x.role closed.table.run ≡ mine x)
+      (All-tail (λ (x : TablePass). calls_of x.role closed.table.run ≡ mine x) host.table (map (λ (x : Seeker). x.pass) (reverse seekers)) (subst (All (λ (x : TablePass). calls_of x.role closed.table.run ≡ mine x)) back.table closed.table.in_order)) k d there
 
   -- ---- memory
 
@@ -205,9 +206,9 @@ module _ (server : ServeSetting) (jobs : List Job) (r : Rows) (before after : Ta
       → HadAllMemory (suc (length jobs)) before after ended_ran
   unfolding ended_ran seek_made
   ended_memory one each at_p at_i = record {
-    tables = All-append (λ (m : Made TableCall TableReply). HasMemory m.reply) (sought server before jobs) t.run
+    tables = All-append (λ (m : Made TableCall TableReply). HasMemory m.reply) (sought server before jobs) closed.table.run
         (sought_all (λ (m : Made TableCall TableReply). HasMemory m.reply) server before jobs (λ x. tt))
-        (λ k d lt. all_tables Remembers one (λ j e there. All-weaker (λ (m : Made TableCall TableReply). HasMemory m.reply) Remembers (λ m h f. h) (mine (get_or seekers j e).pass) (each j e there)) k d lt (failed_has r.tables.start t.run t.legal k d lt));
-    stores = all_of_one PeersMay PeersStep peers_after r.stores r.peers_row host.peers held peers_calls p back.peers (λ (m : Made PeerCall PeerReply). HasRoom m.reply) at_p;
-    shelves = all_of_one ItemMay ItemStep item_after r.shelves r.items_row host.items shelf items_calls i back.items (λ (m : Made ItemCall ItemReply). HasItemRoom m.reply) at_i;
+        (λ k d lt. all_tables Remembers one (λ j e there. All-weaker (λ (m : Made TableCall TableReply). HasMemory m.reply) Remembers (λ m h f. h) (mine (get_or seekers j e).pass) (each j e there)) k d lt (failed_has turns.table.start closed.table.run closed.table.legal k d lt));
+    stores = all_of_one PeersMay PeersStep peers_after turns.peers rows.peers.passes host.peers closed.held closed.peers_calls closed.peers back.peers (λ (m : Made PeerCall PeerReply). HasRoom m.reply) at_p;
+    shelves = all_of_one ItemMay ItemStep item_after turns.items rows.items.passes host.items closed.shelf closed.items_calls closed.items back.items (λ (m : Made ItemCall ItemReply). HasItemRoom m.reply) at_i;
   }

@@ -40,6 +40,9 @@ use Rattle.claim_book.proofs.Descent.{own_answers}
 use Rattle.claim_book.proofs.Seeding.{AreSeeds, seeded_seeds}
 use Rattle.node_serve.specs.declared.setting.ServeSetting.{ServeSetting}
 use Rattle.node_serve.specs.Calls.{Did, HadMemory, HasRoom, HasItemRoom}
+use Rattle.serve_crew.specs.Opening.{AreClosed, Opens}
+use Rattle.serve_crew.specs.declared.turns.Turns.{Turns}
+use Rattle.serve_crew.specs.declared.turns.Rows.{Rows}
 use Rattle.serve_crew.specs.Hands.{Hands, SameHands, Grew, TablePass, at_table, at_peers, at_items}
 use Rattle.serve_crew.proofs.Remembering.{did_table, did_peers, did_items}
 use Rattle.lookup_core.specs.declared.gather.Gathered.{Gathered}
@@ -64,7 +67,7 @@ use Rattle.look_many.specs.declared.found.One.{One}
 use Rattle.look_many.specs.declared.found.Many.{Many}
 use Rattle.look_many.specs.Job.{kind_of}
 use Rattle.look_many.specs.ManyLooked.{setting_for, quest_for, seeds_for, reads_for, all_read, IsJournalFor, IsFound, frame_for, seeks, AreSent, ManyTold, journals_of, ManyLooked, TellsEarly, ManyBegan, IsWithinLimits}
-use Rattle.look_many.specs.inner.Seats.{count_of, IsSeekerFor, IsDone, IsHanded, Rows}
+use Rattle.look_many.specs.inner.Seats.{count_of, IsSeekerFor, IsDone, IsHanded}
 use Rattle.look_many.specs.inner.Going.{WentWhole, EndsWhole}
 use Rattle.look_many.specs.inner.Ends.{Task, Starts, FoundBack, StoppedBack}
 use Rattle.look_many.proofs.Planning.{IsOfKind, kept_found}
@@ -222,25 +225,23 @@ fresh_made turn r (suc n) = (refl, fresh_made turn (r + 1) n)
 
 -- ---- the whole
 
-module _ (k : Task) (r : Rows) (before after : TableState) (table_calls : ℕ) (held : PeersState) (peers_calls : ℕ) (shelf : ItemsState) (items_calls : ℕ)
-    (t : Closed TableMay TableStep table_after r.tables r.table_row after table_calls) (p : Closed PeersMay PeersStep peers_after r.stores r.peers_row held peers_calls) (i : Closed ItemMay ItemStep item_after r.shelves r.items_row shelf items_calls)
-    (start : r.tables.start ≡ before) (no_peers : r.stores.start ≡ empty_peers before.per_address) (no_items : r.shelves.start ≡ empty_items before.per_address) (limits : IsWithinLimits k.setting) (small : k.server.k < 256)
+module _ (k : Task) (turns : Turns) (rows : Rows) (before after : TableState) (opened : Opens before turns) (closed : AreClosed turns rows after) (limits : IsWithinLimits k.setting) (small : k.server.k < 256)
     (words words' : WordsState) (told told' : Option (List Event)) where
-  seekers_for : (s : Stand) → Starts k r words told s → AllZip (IsSeekerFor k.server k.setting before) k.jobs s.seekers
-  seekers_for s b = subst (λ table. AllZip (IsSeekerFor k.server k.setting table) k.jobs s.seekers) start b.seekers
+  seekers_for : (s : Stand) → Starts k turns words told s → AllZip (IsSeekerFor k.server k.setting before) k.jobs s.seekers
+  seekers_for s b = subst (λ table. AllZip (IsSeekerFor k.server k.setting table) k.jobs s.seekers) opened.table b.seekers
 
-  no_calls : (s : Stand) → Starts k r words told s → AllByRecursion (λ (x : Seeker). mine x.pass ≡ []) s.seekers
-  no_calls s b = fresh_seats r.tables 1 s.seekers (map (fresh r.tables.id) (range_with_len 1 (length k.jobs))) b.passes (fresh_made r.tables 1 (length k.jobs))
+  no_calls : (s : Stand) → Starts k turns words told s → AllByRecursion (λ (x : Seeker). mine x.pass ≡ []) s.seekers
+  no_calls s b = fresh_seats turns.table 1 s.seekers (map (fresh turns.table.id) (range_with_len 1 (length k.jobs))) b.passes (fresh_made turns.table 1 (length k.jobs))
 
   frame : List FollowUp → Frame
   frame follows = frame_for k.accepts k.tags k.server words k.lasting follows
 
-  is_frame : (follows : List FollowUp) (s : Stand) → Starts k r words told s → IsFrame k.accepts k.tags k.server s.words.seed (frame follows)
+  is_frame : (follows : List FollowUp) (s : Stand) → Starts k turns words told s → IsFrame k.accepts k.tags k.server s.words.seed (frame follows)
   unfolding frame
   is_frame follows s b = record { accepts_is = refl; tags_is = refl; server_is = refl; seed_is = ap (λ (w : WordsState). w.seed) (sym b.words_are) }
 
   -- the first event shows where they begin
-  shown_first : (follows : List FollowUp) (s : Stand) → Starts k r words told s → Grows told s.told (λ events. ManyShow true (frame follows) (count_of s.seekers) s.seekers s.progress s.words.place None nothing_read events)
+  shown_first : (follows : List FollowUp) (s : Stand) → Starts k turns words told s → Grows told s.told (λ events. ManyShow true (frame follows) (count_of s.seekers) s.seekers s.progress s.words.place None nothing_read events)
   unfolding frame
   shown_first follows s b =
       grows_weaker told s.told _ _ b.now_told (λ es e.
@@ -249,23 +250,23 @@ module _ (k : Task) (r : Rows) (before after : TableState) (table_calls : ℕ) (
       (subst (λ (l : Progress). ManyShow true (frame follows) (count_of s.seekers) s.seekers l words.place None nothing_read (Now s.progress.moment ∷ [])) (sym b.progress)
       (begins (frame follows) s.progress.moment s.seekers (all_fresh_of k.server k.setting before limits small k.jobs s.seekers (seekers_for s b))))))
 
-  host_table : (s : Stand) → Starts k r words told s → mine s.host.table ≡ []
+  host_table : (s : Stand) → Starts k turns words told s → mine s.host.table ≡ []
   host_table s b = ap (λ (h : Hands). mine h.table) b.host
 
-  host_peers : (s : Stand) → Starts k r words told s → mine s.host.peers ≡ []
+  host_peers : (s : Stand) → Starts k turns words told s → mine s.host.peers ≡ []
   host_peers s b = ap (λ (h : Hands). mine h.peers) b.host
 
-  host_items : (s : Stand) → Starts k r words told s → mine s.host.items ≡ []
+  host_items : (s : Stand) → Starts k turns words told s → mine s.host.items ≡ []
   host_items s b = ap (λ (h : Hands). mine h.items) b.host
 
   -- the driver's own calls, from none
-  made_table : (s : Stand) (h : Hands) (did : List Did) → Starts k r words told s → Grew s.host h did → mine h.table ≡ flat_map (at_table 0) did
+  made_table : (s : Stand) (h : Hands) (did : List Did) → Starts k turns words told s → Grew s.host h did → mine h.table ≡ flat_map (at_table 0) did
   made_table s h did b g = g.table ∙ ap (λ l. l ++ flat_map (at_table s.host.table.role) did) (host_table s b) ∙ ap (λ (x : Hands). flat_map (at_table x.table.role) did) b.host
 
-  made_peers : (s : Stand) (h : Hands) (did : List Did) → Starts k r words told s → Grew s.host h did → mine h.peers ≡ flat_map (at_peers 0) did
+  made_peers : (s : Stand) (h : Hands) (did : List Did) → Starts k turns words told s → Grew s.host h did → mine h.peers ≡ flat_map (at_peers 0) did
   made_peers s h did b g = g.peers ∙ ap (λ l. l ++ flat_map (at_peers s.host.peers.role) did) (host_peers s b) ∙ ap (λ (x : Hands). flat_map (at_peers x.peers.role) did) b.host
 
-  made_items : (s : Stand) (h : Hands) (did : List Did) → Starts k r words told s → Grew s.host h did → mine h.items ≡ flat_map (at_items 0) did
+  made_items : (s : Stand) (h : Hands) (did : List Did) → Starts k turns words told s → Grew s.host h did → mine h.items ≡ flat_map (at_items 0) did
   made_items s h did b g = g.items ∙ ap (λ l. l ++ flat_map (at_items s.host.items.role) did) (host_items s b) ∙ ap (λ (x : Hands). flat_map (at_items x.items.role) did) b.host
 
   grew_on : (a b c : Hands) (d e : List Did) → SameHands a b → Grew a b d → Grew b c e → Grew a c (d ++ e)
@@ -278,7 +279,7 @@ module _ (k : Task) (r : Rows) (before after : TableState) (table_calls : ℕ) (
         ∙ ap (λ n. mine a.items ++ (flat_map (at_items a.items.role) d ++ flat_map (at_items n) e)) same.items.role ∙ ap (λ l. mine a.items ++ l) (sym (flat_map-append (at_items a.items.role) d e));
   }
 
-  pub many_looked : (many : Many) → FoundBack k r words words' told told' many → ManyLooked k.accepts k.tags k.server k.setting k.jobs k.lasting before after words words' told told' many
+  pub many_looked : (many : Many) → FoundBack k turns rows words words' told told' many → ManyLooked k.accepts k.tags k.server k.setting k.jobs k.lasting before after words words' told told' many
   unfolding frame
   many_looked many b =
       let s = b.old in
@@ -308,16 +309,16 @@ module _ (k : Task) (r : Rows) (before after : TableState) (table_calls : ℕ) (
             (told_whole (frame w.follows) u.words.place u.seekers many.outcomes u.progress w.read es (subst (λ n. ManyShow false (frame w.follows) n u.seekers u.progress u.words.place None w.read es) same_count x) w.none_open w.all_said w.enough b.handed
             (subst (λ l. AreSent l 0 many.outcomes) w.said_are b.sent_are))))));
         drawn = sym b.words_are ∙ w.drawn ∙ ap (λ x. drawn_by x w.read.owners) st.words_are;
-        ran = ended_ran k.server k.jobs r before after table_calls held peers_calls shelf items_calls t p i start no_peers no_items u.host u.seekers b.back count;
-        memory = ended_memory k.server k.jobs r before after table_calls held peers_calls shelf items_calls t p i start no_peers no_items u.host u.seekers b.back count
+        ran = ended_ran k.server k.jobs turns rows before after opened closed u.host u.seekers b.back count;
+        memory = ended_memory k.server k.jobs turns rows before after opened closed u.host u.seekers b.back count
             (All-same Remembers (mine u.host.table) (flat_map (at_table 0) (map did_of errands)) at_t (errand_tables errands had))
             (seat_memory s.seekers u.seekers (no_calls s st) w.each)
             (All-same (λ (m : Made PeerCall PeerReply). HasRoom m.reply) (mine u.host.peers) (flat_map (at_peers 0) (map did_of errands)) at_p (errand_peers errands had))
             (All-same (λ (m : Made ItemCall ItemReply). HasItemRoom m.reply) (mine u.host.items) (flat_map (at_items 0) (map did_of errands)) at_i (errand_items errands had));
         errands = errands;
         are = record { answers = w.ran.answers; losses = w.ran.losses };
-        driver = driver_calls_are k.server k.jobs r before after table_calls held peers_calls shelf items_calls t p i start no_peers no_items u.host u.seekers b.back count (map did_of errands) at_t at_p at_i;
-        of_driver = ended_of_driver k.server k.jobs r before after table_calls held peers_calls shelf items_calls t p i start no_peers no_items u.host u.seekers b.back count;
+        driver = driver_calls_are k.server k.jobs turns rows before after opened closed u.host u.seekers b.back count (map did_of errands) at_t at_p at_i;
+        of_driver = ended_of_driver k.server k.jobs turns rows before after opened closed u.host u.seekers b.back count;
         workers = λ n o lt. workers n o lt;
       }
     where
@@ -325,14 +326,14 @@ module _ (k : Task) (r : Rows) (before after : TableState) (table_calls : ℕ) (
       first_of [] lt = absurd (omega (arith, lt))
       first_of (x ∷ ks) lt = x
 
-      workers : (n : ℕ) (o : One) → n < length k.jobs → calls_in (calls_of (suc n) (ended_ran k.server k.jobs r before after table_calls held peers_calls shelf items_calls t p i start no_peers no_items b.new.host b.new.seekers b.back (zip_length Goes b.old.seekers b.new.seekers b.went.each ∙ zip_length (IsSeekerFor k.server k.setting before) k.jobs b.old.seekers (seekers_for b.old b.starts))).tables) ≡ seen_calls (noted (slice_index_or many.outcomes n o).journal)
+      workers : (n : ℕ) (o : One) → n < length k.jobs → calls_in (calls_of (suc n) (ended_ran k.server k.jobs turns rows before after opened closed b.new.host b.new.seekers b.back (zip_length Goes b.old.seekers b.new.seekers b.went.each ∙ zip_length (IsSeekerFor k.server k.setting before) k.jobs b.old.seekers (seekers_for b.old b.starts))).tables) ≡ seen_calls (noted (slice_index_or many.outcomes n o).journal)
       workers n o lt =
           let count = zip_length Goes b.old.seekers b.new.seekers b.went.each ∙ zip_length (IsSeekerFor k.server k.setting before) k.jobs b.old.seekers (seekers_for b.old b.starts) in
           let d : Seeker = first_of b.new.seekers (omega (arith, lt, count)) in
-          ap calls_in (lookup_calls k.server k.jobs r before after table_calls held peers_calls shelf items_calls t p i start no_peers no_items b.new.host b.new.seekers b.back count n d lt)
+          ap calls_in (lookup_calls k.server k.jobs turns rows before after opened closed b.new.host b.new.seekers b.back count n d lt)
           ∙ worker_calls k.server k.setting before limits small k.jobs b.old.seekers b.new.seekers many.outcomes (seekers_for b.old b.starts) (no_calls b.old b.starts) b.went.each b.found n d o lt
 
-  pub many_began : (fault : ManyFault) → StoppedBack k r words words' told told' fault → ManyBegan k.accepts k.tags k.server k.setting k.jobs k.lasting before after words words' told told' fault
+  pub many_began : (fault : ManyFault) → StoppedBack k turns rows words words' told told' fault → ManyBegan k.accepts k.tags k.server k.setting k.jobs k.lasting before after words words' told told' fault
   unfolding frame
   many_began fault b =
       let s = b.old in
@@ -347,7 +348,7 @@ module _ (k : Task) (r : Rows) (before after : TableState) (table_calls : ℕ) (
       let did = map did_of e.ran.errands in
       let on = e.ran_on.0 in
       let grew : Grew s.host b.host (did ++ on) = grew_on s.host l.host b.host did on e.same e.ran.grew e.ran_on.1 in
-      let are = driver_calls_are k.server k.jobs r before after table_calls held peers_calls shelf items_calls t p i start no_peers no_items b.host b.seekers b.back count (did ++ on) (made_table s b.host (did ++ on) st grew) (made_peers s b.host (did ++ on) st grew) (made_items s b.host (did ++ on) st grew) in
+      let are = driver_calls_are k.server k.jobs turns rows before after opened closed b.host b.seekers b.back count (did ++ on) (made_table s b.host (did ++ on) st grew) (made_peers s b.host (did ++ on) st grew) (made_items s b.host (did ++ on) st grew) in
       let calls = map (seeks k.server before) k.jobs in
       let split = sym (append_assoc calls did on) in
       record {
@@ -360,7 +361,7 @@ module _ (k : Task) (r : Rows) (before after : TableState) (table_calls : ℕ) (
         strays = λ is. grows_weaker told told' _ _ (e.strays is (frame e.follows) (count_of s.seekers) told (is_frame e.follows s st) refl (shown_first e.follows s st)) (λ es x.
             subst (λ ws. EndsAtForeign (frame e.follows) ws es e.read max_strays) whose_are (ends_at_foreign e.busy (frame e.follows) l e.read max_strays es (subst (λ n. ShowsForeign e.busy (frame e.follows) n l e.read max_strays es) same_count x)));
         drawn = e.drawn ∙ ap (λ x. drawn_by x e.read.owners) st.words_are;
-        ran = ended_ran k.server k.jobs r before after table_calls held peers_calls shelf items_calls t p i start no_peers no_items b.host b.seekers b.back count;
+        ran = ended_ran k.server k.jobs turns rows before after opened closed b.host b.seekers b.back count;
         errands = e.ran.errands;
         are = record { answers = e.ran.answers; losses = e.ran.losses };
         driver = record {
@@ -368,7 +369,7 @@ module _ (k : Task) (r : Rows) (before after : TableState) (table_calls : ℕ) (
           stores = (flat_map (at_peers 0) on, are.stores ∙ ap (flat_map (at_peers 0)) split ∙ flat_map-append (at_peers 0) (calls ++ did) on);
           shelves = (flat_map (at_items 0) on, are.shelves ∙ ap (flat_map (at_items 0)) split ∙ flat_map-append (at_items 0) (calls ++ did) on);
         };
-        of_driver = ended_of_driver k.server k.jobs r before after table_calls held peers_calls shelf items_calls t p i start no_peers no_items b.host b.seekers b.back count;
+        of_driver = ended_of_driver k.server k.jobs turns rows before after opened closed b.host b.seekers b.back count;
       }
 
 -- where all are over, and there was no memory to say what was found

@@ -5,10 +5,11 @@ ghost use Rattle.std.specs.List.{All, AllByRecursion, AllZip, range_with_len};
 ghost use Rattle.kad_base.specs.Contacts.{IsUsable};
 ghost use Rattle.kad_base.specs.Failing.{FailsLast};
 ghost use Rattle.kad_base.specs.Outside.{Rose};
-ghost use Rattle.turn_book.specs.Turns.{fresh, AreAll};
+ghost use Rattle.turn_book.specs.Turns.{fresh};
 ghost use Rattle.contact_table.specs.TableStep.{contacts_of};
 ghost use Rattle.node_serve.specs.Calls.{IsSetting};
-ghost use Rattle.serve_crew.specs.Hands.{SameHands, hands};
+ghost use Rattle.serve_crew.specs.Hands.{SameHands};
+ghost use Rattle.serve_crew.specs.Opening.{AreEmpty, AreFresh, HaveAll, HaveRoles};
 ghost use Rattle.lookup_crowd.specs.Errands.{max_lookups};
 ghost use Rattle.lookup_crowd.specs.inner.Crowd.{LosesMore, stand};
 ghost use Rattle.lookup_crowd.specs.inner.ManySteps.{IsOfDesk, IsRunOut, IsSeated};
@@ -18,7 +19,7 @@ ghost use Rattle.look_many.specs.ManyLooked.{CountsUnsent, IsWithinLimits, ManyL
 ghost use Rattle.look_many.specs.inner.Following.{CarriesOf};
 ghost use Rattle.look_many.specs.inner.Kept.{follows_kept};
 ghost use Rattle.look_many.specs.inner.Going.{EndsWhole, WentWhole};
-ghost use Rattle.look_many.specs.inner.Seats.{AreBack, IsAlone, IsBookFor, IsSeekerFor, RolesFrom, done_of, rows};
+ghost use Rattle.look_many.specs.inner.Seats.{AreBack, IsAlone, IsBookFor, IsSeekerFor, RolesFrom, done_of, new_host};
 ghost use Rattle.look_many.specs.inner.Ends.{FoundBack, StoppedBack, task};
 
 use crate::finish::{Done, finish_all, gather};
@@ -31,15 +32,13 @@ use crate::serving::serve_on;
 use claim_book::Book;
 use contact_table::Table;
 use id_puzzles::Words;
-use item_store::Items;
 use kad_base::limits::RECEIVE_ROOM;
 use kad_base::{Link, List, NoMemory, Numbers, Serial};
-use lookup_crowd::{Desk, FollowUp, ManyFault, Progress, Seeker, all_legal, go_rounds};
+use lookup_crowd::{FollowUp, ManyFault, Progress, Seeker, all_legal, go_rounds};
 use node_serve::{Lasting, ServeSetting, end_of};
 use path_worker::PacedCheck;
-use peer_store::Peers;
 use seal_tags::{Seal, SealCheck};
-use serve_crew::ServeWorker;
+use serve_crew::{Desk, Rows, ServeWorker, Turns};
 use std::alloc::Global;
 use std::hash::RandomState;
 use std::sync::Wait;
@@ -95,7 +94,7 @@ fn go<R: Threads + Wait + Sync, L: Link, C: PacedCheck + Sync, G: Seal + SealChe
     requires jobs { length jobs.now ≡ length seekers.old }
     requires carried { AllByRecursion MaySayOf jobs.now }
     requires own { IsOfDesk desk.now host.old }
-    requires seated { AllByRecursion (IsSeated desk.now.table.now) seekers.old }
+    requires seated { AllByRecursion (IsSeated desk.now.turns.now.table) seekers.old }
     requires begins { Begins (stand seekers.old progress.old words.old host.old (L.told link.old)) }
     requires some_query { AllByRecursion (λ k. 1 ≤ k.lookup.book.setting.alpha) seekers.old }
     requires none_owned { owners.old.items ≡ [] }
@@ -224,42 +223,32 @@ fn seat(
     desk: &Desk,
     setting: &ManySetting,
     jobs: &[Job],
-    table_row: &mut Passes<Table>,
-    peers_row: &mut Passes<Peers>,
-    items_row: &mut Passes<Items>,
+    rows: &mut Rows,
     room: &mut Room,
 ) -> ServeWorker
-    requires books { AllZip (IsBookFor desk.now.setting.now setting.now desk.now.table.now.start) jobs.now
+    requires books { AllZip (IsBookFor desk.now.setting.now setting.now desk.now.turns.now.table.start) jobs.now
         (reverse room.old.books.items) }
     requires no_seekers { room.old.seekers.items ≡ [] }
     requires seeker_room { length jobs.now ≤ vec_capacity room.old.seekers }
     requires no_stack { room.old.stack.items ≡ [] }
     requires stack_room { length jobs.now + 1 ≤ vec_capacity room.old.stack }
-    requires tables { table_row.old.passes ≡ map (fresh desk.now.table.now.id) (range_with_len 0 (length jobs.now + 1)) }
-    requires peers { peers_row.old.passes ≡ fresh desk.now.peers.now.id 0 ∷ [] }
-    requires items { items_row.old.passes ≡ fresh desk.now.items.now.id 0 ∷ [] }
-    ensures host { result ≡ hands (fresh desk.now.table.now.id 0) (fresh desk.now.peers.now.id 0)
-        (fresh desk.now.items.now.id 0) }
-    ensures seekers { AllZip (IsSeekerFor desk.now.setting.now setting.now desk.now.table.now.start) jobs.now
+    requires fresh { AreFresh (length jobs.now + 1) 1 desk.now.turns.now rows.old }
+    ensures host { result ≡ new_host desk.now.turns.now }
+    ensures seekers { AllZip (IsSeekerFor desk.now.setting.now setting.now desk.now.turns.now.table.start) jobs.now
         room.new.seekers.items }
-    ensures passes { map (λ k. k.pass) room.new.seekers.items ≡ map (fresh desk.now.table.now.id)
+    ensures passes { map (λ k. k.pass) room.new.seekers.items ≡ map (fresh desk.now.turns.now.table.id)
         (range_with_len 1 (length jobs.now)) }
     ensures done { room.new.done ≡ room.old.done }
-    ensures tables { table_row.new.passes ≡ [] }
-    ensures peers { peers_row.new.passes ≡ [] }
-    ensures items { items_row.new.passes ≡ [] }
-    ensures table_room { table_row.new.room ≡ table_row.old.room }
-    ensures peers_room { peers_row.new.room ≡ peers_row.old.room }
-    ensures items_room { items_row.new.room ≡ items_row.old.room }
+    ensures empty { AreEmpty (length jobs.now + 1) 1 rows.new }
 {
-    stack_up(table_row, &mut room.stack);
+    stack_up(&mut rows.table, &mut room.stack);
     let table_pass = next_pass(&mut room.stack);
-    let peers_pass = only_pass(desk.peers, peers_row);
-    let items_pass = only_pass(desk.items, items_row);
+    let peers_pass = only_pass(&desk.turns.peers, &mut rows.peers);
+    let items_pass = only_pass(&desk.turns.items, &mut rows.items);
     let host = ServeWorker::new(alloc, table_pass, peers_pass, items_pass);
     seat_all(
         alloc,
-        desk.table,
+        &desk.turns.table,
         &mut room.stack,
         &mut room.books,
         desk.setting,
@@ -275,39 +264,27 @@ fn put_back(
     desk: &Desk,
     host: ServeWorker,
     seekers: Vec<Seeker>,
-    table_row: &mut Passes<Table>,
-    peers_row: &mut Passes<Peers>,
-    items_row: &mut Passes<Items>,
+    rows: &mut Rows,
     done: &mut Vec<Done>,
 )
     requires own { IsOfDesk desk.now host }
     requires alone { IsAlone host }
-    requires seated { AllByRecursion (IsSeated desk.now.table.now) seekers.items }
+    requires seated { AllByRecursion (IsSeated desk.now.turns.now.table) seekers.items }
     requires roles { RolesFrom 1 seekers.items }
-    requires table_roles { desk.now.table.now.roles ≡ length seekers.items + 1 }
-    requires peers_roles { desk.now.peers.now.roles ≡ 1 }
-    requires items_roles { desk.now.items.now.roles ≡ 1 }
-    requires no_tables { table_row.old.passes ≡ [] }
-    requires no_peers { peers_row.old.passes ≡ [] }
-    requires no_items { items_row.old.passes ≡ [] }
-    requires table_room { table_row.old.room ≡ length seekers.items + 1 }
-    requires peers_room { peers_row.old.room ≡ 1 }
-    requires items_room { items_row.old.room ≡ 1 }
+    requires turns { HaveRoles (length seekers.items + 1) 1 desk.now.turns.now }
+    requires empty { AreEmpty (length seekers.items + 1) 1 rows.old }
     requires none_done { done.old.items ≡ [] }
     requires done_room { length seekers.items ≤ vec_capacity done.old }
-    ensures tables { AreAll desk.now.table.now table_row.new.passes }
-    ensures peers { AreAll desk.now.peers.now peers_row.new.passes }
-    ensures items { AreAll desk.now.items.now items_row.new.passes }
-    ensures back { AreBack (rows desk.now.table.now desk.now.peers.now desk.now.items.now
-        table_row.new.passes peers_row.new.passes items_row.new.passes) host seekers.items }
+    ensures all { HaveAll desk.now.turns.now rows.new }
+    ensures back { AreBack rows.new host seekers.items }
     ensures done { done.new.items ≡ map done_of (reverse seekers.items) }
 {
     let _ = desk;
     let (table_pass, peers_pass, items_pass) = host.into_passes();
-    table_row.push(table_pass);
-    peers_row.push(peers_pass);
-    items_row.push(items_pass);
-    gather(table_row, seekers, done);
+    rows.table.push(table_pass);
+    rows.peers.push(peers_pass);
+    rows.items.push(items_pass);
+    gather(&mut rows.table, seekers, done);
 }
 
 /// Makes the lookups and the node that serves of the passes of three turns, goes on with them, and puts all passes back.
@@ -322,9 +299,7 @@ fn work<R: Threads + Wait + Sync, L: Link, C: PacedCheck + Sync, G: Seal + SealC
     lasting: Lasting,
     check: &C,
     seal: &G,
-    table_row: &mut Passes<Table>,
-    peers_row: &mut Passes<Peers>,
-    items_row: &mut Passes<Items>,
+    rows: &mut Rows,
     mut room: Room,
 ) -> Result<Many, ManyFault>
     requires setting { IsSetting desk.now.setting.now }
@@ -333,7 +308,7 @@ fn work<R: Threads + Wait + Sync, L: Link, C: PacedCheck + Sync, G: Seal + SealC
     requires limits { IsWithinLimits setting.now }
     requires small { desk.now.setting.now.k < 256 }
     requires place { words.old.place < 2 ^ 59 }
-    requires books { AllZip (IsBookFor desk.now.setting.now setting.now desk.now.table.now.start) jobs.now
+    requires books { AllZip (IsBookFor desk.now.setting.now setting.now desk.now.turns.now.table.start) jobs.now
         (reverse room.books.items) }
     requires none_done { room.done.items ≡ [] }
     requires done_room { length jobs.now ≤ vec_capacity room.done }
@@ -341,23 +316,13 @@ fn work<R: Threads + Wait + Sync, L: Link, C: PacedCheck + Sync, G: Seal + SealC
     requires seeker_room { length jobs.now ≤ vec_capacity room.seekers }
     requires no_stack { room.stack.items ≡ [] }
     requires stack_room { length jobs.now + 1 ≤ vec_capacity room.stack }
-    requires table_roles { desk.now.table.now.roles ≡ length jobs.now + 1 }
-    requires peers_roles { desk.now.peers.now.roles ≡ 1 }
-    requires items_roles { desk.now.items.now.roles ≡ 1 }
-    requires tables { table_row.old.passes ≡ map (fresh desk.now.table.now.id) (range_with_len 0 (length jobs.now + 1)) }
-    requires peers { peers_row.old.passes ≡ fresh desk.now.peers.now.id 0 ∷ [] }
-    requires items { items_row.old.passes ≡ fresh desk.now.items.now.id 0 ∷ [] }
-    requires table_room { table_row.old.room ≡ length jobs.now + 1 }
-    requires peers_room { peers_row.old.room ≡ 1 }
-    requires items_room { items_row.old.room ≡ 1 }
-    ensures tables { AreAll desk.now.table.now table_row.new.passes }
-    ensures peers { AreAll desk.now.peers.now peers_row.new.passes }
-    ensures items { AreAll desk.now.items.now items_row.new.passes }
+    requires fresh { AreFresh (length jobs.now + 1) 1 desk.now.turns.now rows.old }
+    ensures all { HaveAll desk.now.turns.now rows.new }
     ensures ok { IfOk result (FoundBack (task (G.accepted seal.now) (G.tag_of seal.now) desk.now.setting.now setting.now jobs.now lasting)
-        (rows desk.now.table.now desk.now.peers.now desk.now.items.now table_row.new.passes peers_row.new.passes items_row.new.passes)
+        desk.now.turns.now rows.new
         words.old words.new (L.told link.old) (L.told link.new)) }
     ensures stopped { IfErr result (StoppedBack (task (G.accepted seal.now) (G.tag_of seal.now) desk.now.setting.now setting.now jobs.now lasting)
-        (rows desk.now.table.now desk.now.peers.now desk.now.items.now table_row.new.passes peers_row.new.passes items_row.new.passes)
+        desk.now.turns.now rows.new
         words.old words.new (L.told link.old) (L.told link.new)) }
     ensures link { IsErrOf result ManyFault.LinkFault
         → Rose (L.recv_faults link.old) (L.recv_faults link.new) }
@@ -369,9 +334,7 @@ fn work<R: Threads + Wait + Sync, L: Link, C: PacedCheck + Sync, G: Seal + SealC
         → L.recv_faults link.new ≡ L.recv_faults link.old }
     ensures kept { L.kept link.new ≡ L.kept link.old }
 {
-    let mut host = seat(
-        alloc, desk, setting, jobs, table_row, peers_row, items_row, &mut room,
-    );
+    let mut host = seat(alloc, desk, setting, jobs, rows, &mut room);
     let began = link.now();
     let mut progress = Progress {
         moment: began,
@@ -400,15 +363,7 @@ fn work<R: Threads + Wait + Sync, L: Link, C: PacedCheck + Sync, G: Seal + SealC
         check,
         seal,
     );
-    put_back(
-        desk,
-        host,
-        room.seekers,
-        table_row,
-        peers_row,
-        items_row,
-        &mut room.done,
-    );
+    put_back(desk, host, room.seekers, rows, &mut room.done);
     match ended {
         Ok(()) => {}
         Err(fault) => return Err(fault),
@@ -477,51 +432,16 @@ pub fn look_many<R: Threads + Wait + Sync, L: Link, C: PacedCheck + Sync, G: Sea
         Err(NoMemory) => return (table, Err(ManyFault::NoMemory)),
     };
     let roles = jobs.len() as u8 + 1;
-    let limit = usize::from(table.per_address());
-    let (tables, mut table_row) = match Turn::new(alloc, table, roles) {
+    let (turns, mut rows) = match Turns::open(alloc, table, roles, 1) {
         Ok(opened) => opened,
         Err(TurnNoMemory { state }) => return (state, Err(ManyFault::NoMemory)),
     };
-    let peers = Peers::limited(alloc, limit);
-    let (stores, mut peers_row) = match Turn::new(alloc, peers, 1) {
-        Ok(opened) => opened,
-        Err(_) => {
-            let (table, _) = tables.close(table_row);
-            return (table, Err(ManyFault::NoMemory));
-        }
-    };
-    let items = Items::limited(alloc, limit);
-    let (shelves, mut items_row) = match Turn::new(alloc, items, 1) {
-        Ok(opened) => opened,
-        Err(_) => {
-            let (table, _) = tables.close(table_row);
-            return (table, Err(ManyFault::NoMemory));
-        }
-    };
     let desk = Desk {
         setting: server,
-        table: &tables,
-        peers: &stores,
-        items: &shelves,
+        turns: &turns,
     };
     let answer = work(
-        rt,
-        alloc,
-        link,
-        words,
-        &desk,
-        jobs,
-        setting,
-        lasting,
-        check,
-        seal,
-        &mut table_row,
-        &mut peers_row,
-        &mut items_row,
-        room,
+        rt, alloc, link, words, &desk, jobs, setting, lasting, check, seal, &mut rows, room,
     );
-    let (table, _) = tables.close(table_row);
-    let (_, _) = stores.close(peers_row);
-    let (_, _) = shelves.close(items_row);
-    (table, answer)
+    (turns.close(rows), answer)
 }

@@ -19,9 +19,9 @@ ghost use Rattle.look_many.specs.inner.Following.{CarriesOf, EndsSaying, Says};
 use id_puzzles::Words;
 use kad_base::{Addr, Link, List, NoMemory, Proof, put_bytes};
 use kad_krpc::{Ask, Message, encode};
-use lookup_crowd::{Desk, FollowUp, ManyFault, Progress, Seeker, all_legal, receive_until};
+use lookup_crowd::{FollowUp, ManyFault, Progress, Seeker, all_legal, receive_until};
 use seal_tags::{Seal, SealCheck};
-use serve_crew::ServeWorker;
+use serve_crew::{Desk, ServeWorker};
 use std::alloc::Global;
 use std::sync::Wait;
 

@@ -12,10 +12,10 @@ ghost use Rattle.lookup_crowd.specs.inner.ManySteps.{IsOfDesk, EndsEarly};
 ghost use Rattle.look_many.specs.inner.Serving.{MayServe, HasEnough, WantsMore};
 
 use kad_base::Link;
-use lookup_crowd::{Desk, ManyFault, Progress, Seeker, all_legal, receive_until};
+use lookup_crowd::{ManyFault, Progress, Seeker, all_legal, receive_until};
 use node_serve::{is_over, waits_to};
 use seal_tags::{Seal, SealCheck};
-use serve_crew::ServeWorker;
+use serve_crew::{Desk, ServeWorker};
 use std::alloc::Global;
 use std::sync::Wait;
 

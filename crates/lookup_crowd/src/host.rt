@@ -7,24 +7,11 @@ ghost use Rattle.lookup_crowd.specs.inner.Crowd.{Holding, Ran};
 ghost use Rattle.lookup_crowd.specs.inner.ManySteps.{Expires, lapsed, all_lapsed, owed_in, Answers, IsOfDesk, RanOn};
 
 use crate::seeker::Seeker;
-use contact_table::Table;
-use item_store::Items;
-use kad_base::{Addr, NoMemory};
-use node_serve::{Answered, ServeSetting};
-use peer_store::Peers;
+use kad_base::NoMemory;
+use node_serve::Answered;
 use seal_tags::Seal;
-use serve_crew::ServeWorker;
+use serve_crew::{Datagram, Desk, ServeWorker};
 use std::sync::Wait;
-use turn_book::Turn;
-
-/// What the node answers by, and the turns over what it holds.
-#[derive(Clone, Copy)]
-pub struct Desk<'a> {
-    pub setting: &'a ServeSetting,
-    pub table: &'a Turn<Table>,
-    pub peers: &'a Turn<Peers>,
-    pub items: &'a Turn<Items>,
-}
 
 /// Answers a foreign datagram: how many bytes its reply has in front of `out`, where it is owed one.
 pub(crate) fn answer<R: Wait, G: Seal>(
@@ -32,31 +19,18 @@ pub(crate) fn answer<R: Wait, G: Seal>(
     desk: &Desk,
     host: &mut ServeWorker,
     seal: &G,
-    from: Addr,
-    bytes: &[u8],
-    at: u64,
+    datagram: &Datagram,
     out: &mut [u8; 4096],
 ) -> Result<Option<usize>, NoMemory>
     requires setting { IsSetting desk.now.setting.now }
     requires own { IsOfDesk desk.now host.old }
     ensures same { SameHands host.old host.new }
-    ensures ok { IfOk result (λ reply. Answers (G.tag_of seal.now) desk.now.setting.now from bytes.now at
-        (owed_in reply from out.new) host.old host.new) }
+    ensures ok { IfOk result (λ reply. Answers (G.tag_of seal.now) desk.now.setting.now datagram.now.from
+        datagram.now.bytes.now datagram.now.at (owed_in reply datagram.now.from out.new) host.old host.new) }
     ensures room { IfOk result (λ reply. IfSome reply (λ n. n ≤ 4096)) }
     ensures ran_on { OnErr result (RanOn host.old host.new) }
 {
-    match host.answer(
-        rt,
-        desk.setting,
-        desk.table,
-        desk.peers,
-        desk.items,
-        from,
-        bytes,
-        at,
-        seal,
-        out,
-    ) {
+    match host.answer(rt, desk, datagram, seal, out) {
         Answered::Reply(length) => Ok(Some(length)),
         Answered::Silent => Ok(None),
         Answered::NoMemory => Err(NoMemory),
@@ -72,7 +46,7 @@ fn expire<R: Wait>(rt: &R, desk: &Desk, host: &mut ServeWorker, seeker: &mut See
     ensures ran { Ran host.old host.new [] (lapsed at seeker.old) }
 {
     while let Some(contact) = seeker.lookup.overdue(at) {
-        host.lost(rt, desk.table, contact);
+        host.lost(rt, &desk.turns.table, contact);
     }
 }
 

@@ -15,7 +15,6 @@ mod take;
 mod wait;
 
 pub use due::FollowUp;
-pub use host::Desk;
 pub use legal::all_legal;
 pub use receive::receive_until;
 pub use rounds::go_rounds;

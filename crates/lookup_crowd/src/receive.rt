@@ -10,14 +10,14 @@ ghost use Rattle.serve_crew.specs.Hands.{SameHands};
 ghost use Rattle.lookup_crowd.specs.inner.Crowd.{Holding, SameSeat, Advances, stand};
 ghost use Rattle.lookup_crowd.specs.inner.ManySteps.{owed_in, IsOfDesk, Counts, Handles, Comes, Passes, Pays, after_paid, IsLastForeign, MayReceive, Received, Stops, EndsByForeign, RanOn};
 
-use crate::host::{Desk, answer, expire_all};
+use crate::host::{answer, expire_all};
 use crate::seeker::{ManyFault, Progress, Seeker};
 use crate::take::take;
 use crate::wait::round_after;
 use kad_base::limits::MAX_STRAYS;
 use kad_base::{Addr, Came, Link, NoMemory};
 use seal_tags::{Seal, SealCheck};
-use serve_crew::ServeWorker;
+use serve_crew::{Datagram, Desk, ServeWorker};
 use std::alloc::Global;
 use std::sync::Wait;
 
@@ -48,9 +48,7 @@ fn handle<R: Wait, G: Seal + SealCheck>(
     progress: &mut Progress,
     seal: &G,
     busy: bool,
-    from: Addr,
-    bytes: &[u8],
-    at: u64,
+    datagram: &Datagram,
     out: &mut [u8; 4096],
 ) -> Result<Option<usize>, ManyFault>
     requires setting { IsSetting desk.now.setting.now }
@@ -62,16 +60,16 @@ fn handle<R: Wait, G: Seal + SealCheck>(
     ensures len { length seekers.new ≡ length seekers.old }
     ensures seats { AllZip SameSeat seekers.old seekers.new }
     ensures ok { IfOk result (λ reply. Handles (G.accepted seal.now) (G.tag_of seal.now)
-        desk.now.setting.now busy from bytes.now at seekers.old seekers.new progress.old progress.new host.old
-        host.new (owed_in reply from out.new)) }
+        desk.now.setting.now busy datagram.now.from datagram.now.bytes.now datagram.now.at seekers.old seekers.new progress.old progress.new host.old
+        host.new (owed_in reply datagram.now.from out.new)) }
     ensures short { IfOk result (λ reply. IfSome reply (λ n. n ≤ 4096)) }
     ensures received { OnOk result (progress.new.received ≡ progress.old.received) }
     ensures strays { IsErrOf result ManyFault.Strays
-        → IsLastForeign (G.accepted seal.now) from bytes.now busy seekers.old progress.old }
+        → IsLastForeign (G.accepted seal.now) datagram.now.from datagram.now.bytes.now busy seekers.old progress.old }
     ensures link { ¬ IsErrOf result ManyFault.LinkFault }
     ensures ran_on { OnErr result (RanOn host.old host.new) }
 {
-    match take(alloc, seekers, seal, from, bytes) {
+    match take(alloc, seekers, seal, datagram.from, datagram.bytes) {
         Ok(true) => return Ok(None),
         Ok(false) => {}
         Err(NoMemory) => return Err(ManyFault::NoMemory),
@@ -80,7 +78,7 @@ fn handle<R: Wait, G: Seal + SealCheck>(
         Ok(()) => {}
         Err(fault) => return Err(fault),
     }
-    match answer(rt, desk, host, seal, from, bytes, at, out) {
+    match answer(rt, desk, host, seal, datagram, out) {
         Ok(reply) => Ok(reply),
         Err(NoMemory) => Err(ManyFault::NoMemory),
     }
@@ -96,9 +94,7 @@ fn came<R: Wait, G: Seal + SealCheck>(
     progress: &mut Progress,
     seal: &G,
     busy: bool,
-    from: Addr,
-    bytes: &[u8],
-    at: u64,
+    datagram: &Datagram,
     out: &mut [u8; 4096],
 ) -> Result<Option<usize>, ManyFault>
     requires setting { IsSetting desk.now.setting.now }
@@ -112,22 +108,22 @@ fn came<R: Wait, G: Seal + SealCheck>(
     ensures len { length seekers.new ≡ length seekers.old }
     ensures seats { AllZip SameSeat seekers.old seekers.new }
     ensures ok { IfOk result (λ reply. Comes (G.accepted seal.now) (G.tag_of seal.now)
-        desk.now.setting.now busy from bytes.now at seekers.old seekers.new progress.old progress.new host.old
-        host.new (owed_in reply from out.new)) }
+        desk.now.setting.now busy datagram.now.from datagram.now.bytes.now datagram.now.at seekers.old seekers.new progress.old progress.new host.old
+        host.new (owed_in reply datagram.now.from out.new)) }
     ensures short { IfOk result (λ reply. IfSome reply (λ n. n ≤ 4096)) }
     ensures strays { IsErrOf result ManyFault.Strays
-        → IsLastForeign (G.accepted seal.now) from bytes.now busy seekers.old progress.old }
+        → IsLastForeign (G.accepted seal.now) datagram.now.from datagram.now.bytes.now busy seekers.old progress.old }
     ensures link { ¬ IsErrOf result ManyFault.LinkFault }
     ensures ran_on { OnErr result (RanOn host.old host.new) }
 {
     let reply = match handle(
-        rt, alloc, desk, host, seekers, progress, seal, busy, from, bytes, at, out,
+        rt, alloc, desk, host, seekers, progress, seal, busy, datagram, out,
     ) {
         Ok(reply) => reply,
         Err(fault) => return Err(fault),
     };
-    expire_all(rt, desk, host, seekers, at);
-    progress.moment = at;
+    expire_all(rt, desk, host, seekers, datagram.at);
+    progress.moment = datagram.at;
     progress.receives = round_after(progress.receives, seekers);
     progress.left = progress.left.saturating_sub(1);
     progress.received += 1;
@@ -236,19 +232,13 @@ pub fn receive_until<R: Wait, L: Link, G: Seal + SealCheck>(
 {
     match link.recv(buf, until) {
         Ok(Came::Packet { from, len, at }) => {
-            match came(
-                rt,
-                alloc,
-                desk,
-                host,
-                seekers,
-                progress,
-                seal,
-                busy,
+            let datagram = Datagram {
                 from,
-                &buf[..len],
+                bytes: &buf[..len],
                 at,
-                out,
+            };
+            match came(
+                rt, alloc, desk, host, seekers, progress, seal, busy, &datagram, out,
             ) {
                 Ok(reply) => {
                     let was_sent = pay(link, from, reply, out);

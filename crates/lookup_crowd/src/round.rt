@@ -10,14 +10,13 @@ ghost use Rattle.serve_crew.specs.Hands.{SameHands};
 ghost use Rattle.lookup_crowd.specs.inner.Crowd.{SameSeat, Advances, stand};
 ghost use Rattle.lookup_crowd.specs.inner.ManySteps.{IsOfDesk, MayAwait, Received, ReceivedAll, EndsEarly, EndsLast};
 
-use crate::host::Desk;
 use crate::legal::all_legal;
 use crate::receive::receive_until;
 use crate::seeker::{ManyFault, Progress, Seeker};
 use crate::wait::wait_until;
 use kad_base::Link;
 use seal_tags::{Seal, SealCheck};
-use serve_crew::ServeWorker;
+use serve_crew::{Desk, ServeWorker};
 use std::alloc::Global;
 use std::sync::Wait;
 

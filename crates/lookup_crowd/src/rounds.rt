@@ -11,7 +11,6 @@ ghost use Rattle.lookup_crowd.specs.inner.ManySteps.{IsOfDesk, IsSeated};
 ghost use Rattle.lookup_crowd.specs.inner.Going.{AreOver, Begins, EndGoing, HaveGone, HaveReceived, SameSeats};
 
 use crate::ask::ask_all;
-use crate::host::Desk;
 use crate::legal::all_legal;
 use crate::round::receive_round;
 use crate::seeker::{ManyFault, Progress, Seeker};
@@ -22,7 +21,7 @@ use kad_base::limits::RECEIVE_ROOM;
 use kad_base::{Link, NoMemory};
 use path_worker::PacedCheck;
 use seal_tags::{Seal, SealCheck};
-use serve_crew::ServeWorker;
+use serve_crew::{Desk, ServeWorker};
 use std::alloc::Global;
 use std::sync::Wait;
 use std::thread::Threads;
@@ -107,7 +106,7 @@ pub fn go_rounds<R: Threads + Wait + Sync, L: Link, C: PacedCheck + Sync, G: Sea
 ) -> Result<(), ManyFault>
     requires setting { IsSetting desk.now.setting.now }
     requires own { IsOfDesk desk.now host.old }
-    requires seated { AllByRecursion (IsSeated desk.now.table.now) seekers.old }
+    requires seated { AllByRecursion (IsSeated desk.now.turns.now.table) seekers.old }
     requires begins { Begins (stand seekers.old progress.old words.old host.old (L.told link.old)) }
     requires moment { L.moment link.old ≡ progress.old.moment }
     ensures same { SameHands host.old host.new }
@@ -140,7 +139,7 @@ pub fn go_rounds<R: Threads + Wait + Sync, L: Link, C: PacedCheck + Sync, G: Sea
             Ok(false) => return Ok(()),
             Err(fault) => return Err(fault),
         }
-        match settle_all(rt, desk.table, check, seekers) {
+        match settle_all(rt, &desk.turns.table, check, seekers) {
             Ok(()) => {}
             Err(NoMemory) => {
                 all_legal(seekers);

@@ -29,7 +29,7 @@ pub use composing::Gained;
 pub use holder::Hold;
 pub use lasting::{Lasting, end_of, is_over, waits_to};
 pub use laws::{one_answer, same_answer, what_is_kept_passes, who_is_taken};
-pub use node::{Answered, Node};
+pub use node::{Answered, Node, Profile};
 pub use nodes::Near;
 pub use planning::Wants;
 pub use replying::respond;

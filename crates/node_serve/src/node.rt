@@ -39,6 +39,17 @@ pub enum Answered {
     NoMemory,
 }
 
+/// What a node is: its identifier, how many contacts its replies name, 1 to 20, its policy, the moment from which on the
+/// epochs of its tokens count, in milliseconds, and whether it is sealed: whether it tags each of its replies.
+#[derive(Clone, Copy, Debug)]
+pub struct Profile {
+    pub own: Id,
+    pub k: u8,
+    pub policy: Policy,
+    pub began: u64,
+    pub sealed: bool,
+}
+
 /// A node that answers queries (BEP 5, BEP 44). It holds its routing table, at most 65,536 peers and 4,096 items, and the
 /// proofs that it was given; of its tokens it keeps none. If the table has a limit of contacts of one host, peers and items
 /// have the same of pairs and of items, and a list of peers begins at a point that is drawn for whoever asks.
@@ -61,34 +72,29 @@ impl Model for Node {
 }
 
 impl Node {
-    /// A node with this routing table and its limit, whose replies name `k` contacts, 1 to 20. Under a policy that asks for
-    /// puzzles they name those of `proofs` too, and the proofs that the table has of others. The secrets of its tokens are drawn from `random`, and their epochs count from the
-    /// moment `began`, in milliseconds. A node that is `sealed` tags each of its replies. Takes no memory.
+    /// A node with this routing table and its limit. Under a policy that asks for puzzles its replies name nodes of `proofs` too,
+    /// and those whose proofs the table has of others. The secrets of its tokens are drawn from `random`. Takes no memory.
     pub fn new(
         alloc: Global,
-        own: Id,
-        k: u8,
-        policy: Policy,
+        profile: Profile,
         table: Table,
         proofs: Reports,
         random: &[u8; 32],
-        began: u64,
-        sealed: bool,
     ) -> Node
-        requires own { table.own ≡ own }
-        requires some_nodes { 0 < k }
-        requires few_nodes { k ≤ max_k }
-        requires proofs { All (Passes policy) proofs }
-        ensures { result ≡ new_node own k policy table proofs random.now began sealed }
+        requires own { table.own ≡ profile.own }
+        requires some_nodes { 0 < profile.k }
+        requires few_nodes { profile.k ≤ max_k }
+        requires proofs { All (Passes profile.policy) proofs }
+        ensures { result ≡ new_node profile.own profile.k profile.policy table proofs random.now profile.began profile.sealed }
     {
         let limit = usize::from(table.per_address());
         let setting = ServeSetting {
-            own,
-            k,
-            policy,
+            own: profile.own,
+            k: profile.k,
+            policy: profile.policy,
             proofs,
-            tokens: Tokens::limited(random, began, limit),
-            sealed,
+            tokens: Tokens::limited(random, profile.began, limit),
+            sealed: profile.sealed,
             proof: None,
         };
         Node {

@@ -10,10 +10,6 @@ use Rattle.serve_batches.specs.declared.place.Place.{Place}
 use Rattle.serve_batches.specs.Deal.{dealt}
 use Rattle.serve_batches.specs.Ring.{ring, share, in_order}
 use Rattle.serve_batches.proofs.Rings.{dealt_map, in_order_map, ring_within, within_share}
-use Rattle.turn_book.specs.Turns.{TurnState}
-use Rattle.contact_table.specs.TableState.{TableState}
-use Rattle.peer_store.specs.Peers.{PeersState}
-use Rattle.item_store.specs.Items.{ItemsState}
 use Rattle.kad_base.specs.declared.types.Event.{Event}
 use Rattle.node_serve.specs.Calls.{Did}
 use Rattle.node_serve.specs.Sealing.{Tags}
@@ -21,9 +17,10 @@ use Rattle.node_serve.specs.declared.node.Answered.{Answered}
 use Rattle.node_serve.specs.declared.node.Answered.TheVariants.{Reply as Reply_owed, Silent, NoMemory}
 use Rattle.node_serve.specs.declared.setting.ServeSetting.{ServeSetting}
 use Rattle.serve_crew.specs.Answered.{IsAnswered}
-use Rattle.serve_crew.specs.Hands.{Grew}
+use Rattle.serve_crew.specs.Hands.{CanWork, Grew}
+use Rattle.serve_crew.specs.declared.turns.Turns.{Turns}
 use Rattle.serve_batches.specs.Batches.{Datagram, Done, IsAnsweredBy, IsDone, Replies}
-use Rattle.serve_batches.specs.Crew.{slots_of, datagrams_of, batch_slots, batch_datagrams, no_slot, no_datagram, AreRoomy, SameCrew, CanWork, HasShares, AllWorked, AllWent, SendsFor}
+use Rattle.serve_batches.specs.Crew.{slots_of, datagrams_of, batch_slots, batch_datagrams, no_slot, no_datagram, AreRoomy, SameCrew, HasShares, AllWorked, AllWent, SendsFor}
 use Rattle.serve_batches.specs.Slots.{SlotState, datagram_in, reply_by, reply_in, Went, Handled, IsHandled}
 use Rattle.serve_batches.specs.declared.shift.Shift.{Shift}
 use Rattle.serve_batches.proofs.Arriving.{slots_here}
@@ -45,15 +42,15 @@ pub shares_here : (crew : List Shift) (m : ℕ) (p : Place) → p ≡ ring (leng
 shares_here crew m p is few roomy w d lt =
     subst (λ q. share q w ≤ length (get_or crew w d).slots.items) (sym is) (share_room (length crew) m w (length (get_or crew w d).slots.items) few (roomy w d lt))
 
-module _ (tables : TurnState TableState) (stores : TurnState PeersState) (shelves : TurnState ItemsState) where
+module _ (turns : Turns) where
   abbrev Can : Shift → Type 0
-  Can s = CanWork tables stores shelves s.worker
+  Can s = CanWork turns s.worker
 
   pub can_after : (old new : List Shift) → SameCrew old new → All Can old → All Can new
   can_after old new same can w d lt =
       let l = same.len in
       let there : w < length old = omega (arith, l, lt) in
-      subst (CanWork tables stores shelves) (sym (same.workers w d there)) (can w d there)
+      subst (CanWork turns) (sym (same.workers w d there)) (can w d there)
 
 pub roomy_worked : (tag_of : Tags) (s : ServeSetting) (p : Place) (old new : List Shift) → length new ≡ length old → AllWorked tag_of s p old new → AreRoomy old → AreRoomy new
 roomy_worked tag_of s p old new len worked roomy w d lt =

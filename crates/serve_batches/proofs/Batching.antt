@@ -7,10 +7,6 @@ use Rattle.std.proofs.lemmas.List.Elements.{All-nil, All-push}
 use Rattle.kad_base.specs.declared.types.Event.{Event}
 use Rattle.kad_base.specs.declared.types.Event.TheVariants.{Quiet}
 use Rattle.kad_base.specs.Outside.{Rose, Happens}
-use Rattle.turn_book.specs.Turns.{TurnState}
-use Rattle.contact_table.specs.TableState.{TableState}
-use Rattle.peer_store.specs.Peers.{PeersState}
-use Rattle.item_store.specs.Items.{ItemsState}
 use Rattle.serve_batches.specs.Deal.{dealt}
 use Rattle.serve_batches.specs.Ring.{ring}
 use Rattle.serve_batches.proofs.Rings.{length_in_order}
@@ -21,10 +17,11 @@ use Rattle.node_serve.specs.declared.service.ServeFault.{ServeFault}
 use Rattle.node_serve.specs.declared.service.ServeFault.TheVariants.{NoMemory as Out_of_memory}
 use Rattle.node_serve.specs.declared.setting.ServeSetting.{ServeSetting}
 use Rattle.node_serve.proofs.Receiving.{sent_then}
-use Rattle.serve_crew.specs.Hands.{SameHands, Grew}
+use Rattle.serve_crew.specs.Hands.{CanWork, SameHands, Grew}
+use Rattle.serve_crew.specs.declared.turns.Turns.{Turns}
 use Rattle.serve_crew.proofs.Growing.{grew_none, grew_more, same_none, same_more}
 use Rattle.serve_batches.specs.Batches.{Datagram, Receives, quiet, full, over, Done, IsDone, IsBatch, IsUnanswered, Batches, receives_of, waits_after, calls_for}
-use Rattle.serve_batches.specs.Crew.{SameCrew, CanWork, AllWorked, SendsAll, IsReceived, batch_datagrams, batch_slots, datagrams_of, no_datagram}
+use Rattle.serve_batches.specs.Crew.{SameCrew, AllWorked, SendsAll, IsReceived, batch_datagrams, batch_slots, datagrams_of, no_datagram}
 use Rattle.serve_batches.specs.ManyServed.{EndsEarly}
 use Rattle.serve_batches.specs.Serving.{SameRoles, GrewSome, ServesBatch, ServesBatches, StopsServing}
 use Rattle.serve_batches.specs.Slots.{Handled}
@@ -210,8 +207,8 @@ roles_none crew w d lt = same_none (get_or crew w d).worker
 pub roles_more : (old mid new : List Shift) → length mid ≡ length old → SameRoles old mid → SameRoles mid new → SameRoles old new
 roles_more old mid new len a b w d lt = same_more (get_or old w d).worker (get_or mid w d).worker (get_or new w d).worker (a w d lt) (b w d (omega (arith, len, lt)))
 
-pub can_by_roles : (tables : TurnState TableState) (stores : TurnState PeersState) (shelves : TurnState ItemsState) (old new : List Shift) → length new ≡ length old → SameRoles old new → All (λ (x : Shift). CanWork tables stores shelves x.worker) old → All (λ (x : Shift). CanWork tables stores shelves x.worker) new
-can_by_roles tables stores shelves old new len roles can w d lt =
+pub can_by_roles : (turns : Turns) (old new : List Shift) → length new ≡ length old → SameRoles old new → All (λ (x : Shift). CanWork turns x.worker) old → All (λ (x : Shift). CanWork turns x.worker) new
+can_by_roles turns old new len roles can w d lt =
     let there : w < length old = omega (arith, len, lt) in
     let same = roles w d there in
     let can_ = can w d there in

@@ -1,7 +1,7 @@
 -- What is known once the three turns are closed.
 use Rattle.std.proofs.Common.{◌≡◌, ℕ, ◌+◌, ◌<◌, ◌%◌, ◌==◌, cond, Bool, true, false, List, [], ◌∷◌, ◌++◌, map, length, get_or, Option, Some, None, Result, Ok, Err, IfOk, inl, refl, sym, ap, subst, ◌∙◌, arith, All}
 use Rattle.std.specs.Prelude.{IfErr, reverse, slice_index_or}
-use Rattle.std.specs.List.{flat_map}
+use Rattle.std.specs.List.{flat_map, range_with_len}
 use Rattle.std.proofs.lemmas.Grind.{flat_map-append}
 use Rattle.std.proofs.lemmas.List.Elements.{All-nil, All-cons, All-head, All-tail, All-same, All-append}
 use Rattle.kad_base.specs.declared.types.Event.{Event}
@@ -9,22 +9,21 @@ use Rattle.kad_base.specs.declared.serial.Made.{Made}
 use Rattle.kad_base.specs.Serial.{calls_of, left_by, IsRun}
 use Rattle.kad_base.specs.Outside.{Happens}
 use Rattle.serve_batches.specs.Deal.{dealt_from, dealt}
-use Rattle.turn_book.proofs.Ended.{all_in_row, each_in_row, mine_few, all_run, none_made}
-use Rattle.turn_book.specs.Turns.{TurnState, PassState, Closed, all_fresh, mine}
+use Rattle.turn_book.proofs.Ended.{all_in_row, each_in_row, mine_few, all_run}
+use Rattle.turn_book.specs.Turns.{TurnState, PassState, Closed, mine}
 use Rattle.contact_table.specs.TableState.{TableState}
 use Rattle.contact_table.specs.TableStep.{TableMay, TableStep, table_after}
 use Rattle.contact_table.specs.Told.{HasMemory}
 use Rattle.contact_table.specs.declared.calls.TableCall.{TableCall}
 use Rattle.contact_table.specs.declared.calls.TableReply.{TableReply}
-use Rattle.peer_store.specs.Peers.{PeersState, no_peers as empty_peers}
 use Rattle.peer_store.specs.PeersStep.{PeersMay, PeersStep, peers_after}
 use Rattle.peer_store.specs.declared.calls.PeerCall.{PeerCall}
 use Rattle.peer_store.specs.declared.calls.PeerReply.{PeerReply}
-use Rattle.item_store.specs.Items.{ItemsState, no_items as empty_items}
 use Rattle.item_store.specs.ItemSteps.{ItemMay, ItemStep, item_after}
 use Rattle.item_store.specs.declared.calls.ItemCall.{ItemCall}
 use Rattle.item_store.specs.declared.calls.ItemReply.{ItemReply}
 use Rattle.node_serve.specs.Calls.{Did, HadMemory, HasRoom, HasItemRoom}
+use Rattle.node_serve.specs.Lasting.{end_of}
 use Rattle.node_serve.specs.Sealing.{Tags}
 use Rattle.node_serve.specs.declared.lasting.Lasting.{Lasting}
 use Rattle.node_serve.specs.declared.service.ServeCounts.{ServeCounts}
@@ -32,14 +31,19 @@ use Rattle.node_serve.specs.declared.service.ServeFault.{ServeFault}
 use Rattle.node_serve.specs.declared.service.ServeFault.TheVariants.{NoMemory as Out_of_memory}
 use Rattle.node_serve.specs.declared.setting.ServeSetting.{ServeSetting}
 use Rattle.serve_crew.proofs.Remembering.{did_table, did_peers, did_items}
-use Rattle.serve_crew.specs.Hands.{Grew, TablePass, PeersPass, ItemsPass, at_table, at_peers, at_items}
+use Rattle.serve_crew.specs.Hands.{Hands, Grew, TablePass, PeersPass, ItemsPass, at_table, at_peers, at_items}
+use Rattle.serve_crew.specs.Opening.{AreClosed, Opens}
+use Rattle.serve_crew.specs.declared.turns.Turns.{Turns}
+use Rattle.serve_crew.specs.declared.turns.Rows.{Rows}
 use Rattle.serve_batches.specs.Batches.{Datagram, Done, IsAnsweredBy, IsDone, calls_for}
 use Rattle.serve_crew.specs.Runs.{Ran, HadAllMemory, AreCalls, AreFirstCalls}
 use Rattle.serve_batches.specs.ManyServed.{ManyServed, ManyBegun}
-use Rattle.serve_batches.specs.Passes.{new_hands}
-use Rattle.serve_batches.specs.Serving.{Rows, AreBack, ServedBack, StoppedBack}
+use Rattle.serve_batches.specs.Passes.{new_hands, workers_of}
+use Rattle.serve_batches.specs.Serving.{GrewFirst, ServesAll, StopsServing, begun}
 use Rattle.serve_batches.specs.declared.shift.Shift.{Shift}
 use Rattle.serve_batches.proofs.Answering.{first_of}
+use Rattle.serve_batches.proofs.Dealing.{crew_count, start_at}
+use Rattle.serve_batches.proofs.Returning.{AreBack}
 use Rattle.kad_base.proofs.Happening.{happens_weaker}
 
 -- ---- one turn
@@ -88,9 +92,7 @@ module _ (tag_of : Tags) (s : ServeSetting) where
 
 -- ---- three turns
 
-module _ (n : ℕ) (r : Rows) (before after : TableState) (table_calls : ℕ) (held : PeersState) (peers_calls : ℕ) (shelf : ItemsState) (items_calls : ℕ)
-    (t : Closed TableMay TableStep table_after r.tables r.table_row after table_calls) (p : Closed PeersMay PeersStep peers_after r.stores r.peers_row held peers_calls) (i : Closed ItemMay ItemStep item_after r.shelves r.items_row shelf items_calls)
-    (start : r.tables.start ≡ before) (no_peers : r.stores.start ≡ empty_peers before.per_address) (no_items : r.shelves.start ≡ empty_items before.per_address) (crew : List Shift) (back : AreBack n r crew) where
+module _ (n : ℕ) (turns : Turns) (rows : Rows) (before after : TableState) (opened : Opens before turns) (closed : AreClosed turns rows after) (crew : List Shift) (back : AreBack n turns rows crew) where
   abbrev table_of : Shift → TablePass
   table_of x = x.worker.table
 
@@ -105,36 +107,36 @@ module _ (n : ℕ) (r : Rows) (before after : TableState) (table_calls : ℕ) (h
 
   ran : Ran n before after
   ran = record {
-    tables = t.run;
-    tables_legal = subst (λ b. IsRun TableMay TableStep table_after b t.run) start t.legal;
-    tables_roles = crew_few TableMay TableStep table_after r.tables r.table_row after table_calls t table_of crew back.tables n
+    tables = closed.table.run;
+    tables_legal = subst (λ b. IsRun TableMay TableStep table_after b closed.table.run) opened.table closed.table.legal;
+    tables_roles = crew_few TableMay TableStep table_after turns.table rows.table.passes after closed.table_calls closed.table table_of crew back.passes.table n
         (λ w d lt. (let role = (back.same w d (below w lt)).table.role in let few = below w lt in omega (arith, role, few)));
-    leaves = t.left ∙ ap (λ b. left_by table_after b t.run) start;
-    stores = p.run;
-    stores_legal = subst (λ b. IsRun PeersMay PeersStep peers_after b p.run) no_peers p.legal;
-    stores_roles = crew_few PeersMay PeersStep peers_after r.stores r.peers_row held peers_calls p peers_of crew back.peers n
+    leaves = closed.table.left ∙ ap (λ b. left_by table_after b closed.table.run) opened.table;
+    stores = closed.peers.run;
+    stores_legal = subst (λ b. IsRun PeersMay PeersStep peers_after b closed.peers.run) opened.peers closed.peers.legal;
+    stores_roles = crew_few PeersMay PeersStep peers_after turns.peers rows.peers.passes closed.held closed.peers_calls closed.peers peers_of crew back.passes.peers n
         (λ w d lt. (let role = (back.same w d (below w lt)).peers.role in let few = below w lt in omega (arith, role, few)));
-    shelves = i.run;
-    shelves_legal = subst (λ b. IsRun ItemMay ItemStep item_after b i.run) no_items i.legal;
-    shelves_roles = crew_few ItemMay ItemStep item_after r.shelves r.items_row shelf items_calls i items_of crew back.items n
+    shelves = closed.items.run;
+    shelves_legal = subst (λ b. IsRun ItemMay ItemStep item_after b closed.items.run) opened.items closed.items.legal;
+    shelves_roles = crew_few ItemMay ItemStep item_after turns.items rows.items.passes closed.shelf closed.items_calls closed.items items_of crew back.passes.items n
         (λ w d lt. (let role = (back.same w d (below w lt)).items.role in let few = below w lt in omega (arith, role, few)));
   }
 
   abbrev GrewBy : (ℕ → List Did) → Type 0
-  GrewBy did = (w : ℕ) (d : Shift) → w < n → Grew (new_hands r.tables r.stores r.shelves w) (slice_index_or crew w d).worker (did w)
+  GrewBy did = (w : ℕ) (d : Shift) → w < n → Grew (new_hands turns w) (slice_index_or crew w d).worker (did w)
 
   memory : (did : ℕ → List Did) → GrewBy did → ((w : ℕ) → All HadMemory (did w)) → HadAllMemory n before after ran
   unfolding ran
   memory did grew had = record {
-    tables = all_crew TableMay TableStep table_after r.tables r.table_row after table_calls t table_of crew back.tables (λ (m : Made TableCall TableReply). HasMemory m.reply)
+    tables = all_crew TableMay TableStep table_after turns.table rows.table.passes after closed.table_calls closed.table table_of crew back.passes.table (λ (m : Made TableCall TableReply). HasMemory m.reply)
         (λ w d lt. All-same (λ (m : Made TableCall TableReply). HasMemory m.reply) (mine (get_or crew w d).worker.table) (flat_map (at_table w) (did w)) (grew w d (below w lt)).table (did_table w (did w) (had w)));
-    stores = all_crew PeersMay PeersStep peers_after r.stores r.peers_row held peers_calls p peers_of crew back.peers (λ (m : Made PeerCall PeerReply). HasRoom m.reply)
+    stores = all_crew PeersMay PeersStep peers_after turns.peers rows.peers.passes closed.held closed.peers_calls closed.peers peers_of crew back.passes.peers (λ (m : Made PeerCall PeerReply). HasRoom m.reply)
         (λ w d lt. All-same (λ (m : Made PeerCall PeerReply). HasRoom m.reply) (mine (get_or crew w d).worker.peers) (flat_map (at_peers w) (did w)) (grew w d (below w lt)).peers (did_peers w (did w) (had w)));
-    shelves = all_crew ItemMay ItemStep item_after r.shelves r.items_row shelf items_calls i items_of crew back.items (λ (m : Made ItemCall ItemReply). HasItemRoom m.reply)
+    shelves = all_crew ItemMay ItemStep item_after turns.items rows.items.passes closed.shelf closed.items_calls closed.items items_of crew back.passes.items (λ (m : Made ItemCall ItemReply). HasItemRoom m.reply)
         (λ w d lt. All-same (λ (m : Made ItemCall ItemReply). HasItemRoom m.reply) (mine (get_or crew w d).worker.items) (flat_map (at_items w) (did w)) (grew w d (below w lt)).items (did_items w (did w) (had w)));
   }
 
-  are_calls : (w : ℕ) (did : List Did) → w < n → ((d : Shift) → Grew (new_hands r.tables r.stores r.shelves w) (slice_index_or crew w d).worker did) → AreCalls n before after ran w did
+  are_calls : (w : ℕ) (did : List Did) → w < n → ((d : Shift) → Grew (new_hands turns w) (slice_index_or crew w d).worker did) → AreCalls n before after ran w did
   unfolding ran
   are_calls w did lt grew =
       let count = back.count in
@@ -142,12 +144,12 @@ module _ (n : ℕ) (r : Rows) (before after : TableState) (table_calls : ℕ) (h
       let d : Shift = first_of crew (omega (arith, there)) in
       let same = back.same w d lt in
       record {
-        tables = calls_at TableMay TableStep table_after r.tables r.table_row after table_calls t table_of crew back.tables w d there same.table.role ∙ (grew d).table;
-        stores = calls_at PeersMay PeersStep peers_after r.stores r.peers_row held peers_calls p peers_of crew back.peers w d there same.peers.role ∙ (grew d).peers;
-        shelves = calls_at ItemMay ItemStep item_after r.shelves r.items_row shelf items_calls i items_of crew back.items w d there same.items.role ∙ (grew d).items;
+        tables = calls_at TableMay TableStep table_after turns.table rows.table.passes after closed.table_calls closed.table table_of crew back.passes.table w d there same.table.role ∙ (grew d).table;
+        stores = calls_at PeersMay PeersStep peers_after turns.peers rows.peers.passes closed.held closed.peers_calls closed.peers peers_of crew back.passes.peers w d there same.peers.role ∙ (grew d).peers;
+        shelves = calls_at ItemMay ItemStep item_after turns.items rows.items.passes closed.shelf closed.items_calls closed.items items_of crew back.passes.items w d there same.items.role ∙ (grew d).items;
       }
 
-  are_first : (w : ℕ) (did rest : List Did) → w < n → (d : Shift) → Grew (new_hands r.tables r.stores r.shelves w) (slice_index_or crew w d).worker (did ++ rest) → AreFirstCalls n before after ran w did
+  are_first : (w : ℕ) (did rest : List Did) → w < n → (d : Shift) → Grew (new_hands turns w) (slice_index_or crew w d).worker (did ++ rest) → AreFirstCalls n before after ran w did
   unfolding ran
   are_first w did rest lt d grew =
       let count = back.count in
@@ -156,53 +158,78 @@ module _ (n : ℕ) (r : Rows) (before after : TableState) (table_calls : ℕ) (h
       record {
         tables = (
           flat_map (at_table w) rest,
-          calls_at TableMay TableStep table_after r.tables r.table_row after table_calls t table_of crew back.tables w d there same.table.role ∙ grew.table ∙ flat_map-append (at_table w) did rest,
+          calls_at TableMay TableStep table_after turns.table rows.table.passes after closed.table_calls closed.table table_of crew back.passes.table w d there same.table.role ∙ grew.table ∙ flat_map-append (at_table w) did rest,
         );
         stores = (
           flat_map (at_peers w) rest,
-          calls_at PeersMay PeersStep peers_after r.stores r.peers_row held peers_calls p peers_of crew back.peers w d there same.peers.role ∙ grew.peers ∙ flat_map-append (at_peers w) did rest,
+          calls_at PeersMay PeersStep peers_after turns.peers rows.peers.passes closed.held closed.peers_calls closed.peers peers_of crew back.passes.peers w d there same.peers.role ∙ grew.peers ∙ flat_map-append (at_peers w) did rest,
         );
         shelves = (
           flat_map (at_items w) rest,
-          calls_at ItemMay ItemStep item_after r.shelves r.items_row shelf items_calls i items_of crew back.items w d there same.items.role ∙ grew.items ∙ flat_map-append (at_items w) did rest,
+          calls_at ItemMay ItemStep item_after turns.items rows.items.passes closed.shelf closed.items_calls closed.items items_of crew back.passes.items w d there same.items.role ∙ grew.items ∙ flat_map-append (at_items w) did rest,
         );
       }
 
-module _ (tag_of : Tags) (s : ServeSetting) (n began : ℕ) (lasting : Lasting) (r : Rows) (before after : TableState) (table_calls : ℕ) (held : PeersState) (peers_calls : ℕ) (shelf : ItemsState) (items_calls : ℕ)
-    (t : Closed TableMay TableStep table_after r.tables r.table_row after table_calls) (p : Closed PeersMay PeersStep peers_after r.stores r.peers_row held peers_calls) (i : Closed ItemMay ItemStep item_after r.shelves r.items_row shelf items_calls)
-    (start : r.tables.start ≡ before) (no_peers : r.stores.start ≡ empty_peers before.per_address) (no_items : r.shelves.start ≡ empty_items before.per_address) where
-  pub many_served : (received replied : ℕ) (es : List Event) → ServedBack tag_of s n began lasting received replied r es → ManyServed tag_of s n began lasting before after received replied es
-  many_served received replied es h = record {
-    ran = ran n r before after table_calls held peers_calls shelf items_calls t p i start no_peers no_items h.crew h.back;
-    memory = memory n r before after table_calls held peers_calls shelf items_calls t p i start no_peers no_items h.crew h.back (λ w. calls_for n w h.batches) h.grew (λ w. calls_memory tag_of s n w h.batches h.done);
-    batches = h.batches;
-    left = h.left;
-    end = h.end;
-    are = h.are;
-    ended = h.ended;
-    done = h.done;
-    each = λ w lt. are_calls n r before after table_calls held peers_calls shelf items_calls t p i start no_peers no_items h.crew h.back w (calls_for n w h.batches) lt (λ d. h.grew w d lt);
-    received_are = h.received_are;
-    replied_are = h.replied_are;
-  }
+module _ (tag_of : Tags) (s : ServeSetting) (n began : ℕ) (lasting : Lasting) (turns : Turns) (rows : Rows) (before after : TableState) (opened : Opens before turns) (closed : AreClosed turns rows after)
+    (old new : List Shift) (is : workers_of old ≡ map (new_hands turns) (range_with_len 0 n)) (back : AreBack n turns rows new) where
+  count : length old ≡ n
+  count = crew_count turns n old is
 
-  pub many_begun : (fault : ServeFault) (es : List Event) → 0 < n → StoppedBack tag_of s n began lasting r fault es → ManyBegun tag_of s n began lasting before after fault es
-  many_begun fault es some h =
-      let count = h.back.count in
-      let d : Shift = first_of h.crew (omega (arith, count, some)) in
+  -- a worker's calls, since it was made
+  since : (P : Hands → List Did → Type 0) (w : ℕ) (d : Shift) (bs : List (List Done)) → w < n → (w < length old → P (slice_index_or old w d).worker (calls_for (length old) w bs)) → P (new_hands turns w) (calls_for n w bs)
+  since P w d bs lt grew =
+      let c = count in
+      let there : w < length old = omega (arith, c, lt) in
+      subst (λ k. P (new_hands turns w) (calls_for k w bs)) c (subst (λ h. P h (calls_for (length old) w bs)) (start_at turns n old is w d there) (grew there))
+
+  many_served : (received replied : ℕ) (es : List Event) → ServesAll tag_of (end_of began lasting.minutes) s (begun began lasting.receives) received replied old new es → ManyServed tag_of s n began lasting before after received replied es
+  many_served received replied es h =
+      let x = h.served in
+      let got = x.received_are in
+      let sent = x.replied_are in
+      let grew : (w : ℕ) (d : Shift) → w < n → Grew (new_hands turns w) (slice_index_or new w d).worker (calls_for n w x.batches) = λ w d lt. since (λ g. Grew g (slice_index_or new w d).worker) w d x.batches lt (x.grew w d) in
       record {
-        ran = ran n r before after table_calls held peers_calls shelf items_calls t p i start no_peers no_items h.crew h.back;
-        batches = h.batches;
-        front = h.front;
+        ran = ran n turns rows before after opened closed new back;
+        memory = memory n turns rows before after opened closed new back (λ w. calls_for n w x.batches) grew (λ w. calls_memory tag_of s n w x.batches x.done);
+        batches = x.batches;
         left = h.left;
-        moment = h.moment;
-        are = h.are;
-        done = h.done;
-        each = λ w lt. are_first n r before after table_calls held peers_calls shelf items_calls t p i start no_peers no_items h.crew h.back w (calls_for n w h.batches) (h.grew w d lt).0 lt d (h.grew w d lt).1;
-        last = h.last;
-        whole = h.whole;
+        end = h.moment;
+        are = x.are;
         ended = h.ended;
+        done = x.done;
+        each = λ w lt. are_calls n turns rows before after opened closed new back w (calls_for n w x.batches) lt (λ d. grew w d lt);
+        received_are = omega (arith, got);
+        replied_are = omega (arith, sent);
       }
+
+  many_begun : (fault : ServeFault) (es : List Event) → 0 < n → StopsServing tag_of (end_of began lasting.minutes) s (begun began lasting.receives) old new fault es → ManyBegun tag_of s n began lasting before after fault es
+  many_begun fault es some x =
+      let all = back.count in
+      let d : Shift = first_of new (omega (arith, all, some)) in
+      let grew : (w : ℕ) → w < n → GrewFirst (new_hands turns w) (slice_index_or new w d).worker (calls_for n w x.batches) = λ w lt. since (λ g. GrewFirst g (slice_index_or new w d).worker) w d x.batches lt (x.grew w d) in
+      record {
+        ran = ran n turns rows before after opened closed new back;
+        batches = x.batches;
+        front = x.front;
+        left = x.left;
+        moment = x.moment;
+        are = x.are;
+        done = x.done;
+        each = λ w lt. are_first n turns rows before after opened closed new back w (calls_for n w x.batches) (grew w lt).0 lt d (grew w lt).1;
+        last = x.last;
+        whole = x.whole;
+        ended = x.ended;
+      }
+
+  pub ok_served : (a b : Option (List Event)) (x : Result ServeCounts ServeFault) → IfOk x (λ (c : ServeCounts). Happens a b (ServesAll tag_of (end_of began lasting.minutes) s (begun began lasting.receives) c.received c.replied old new))
+      → IfOk x (λ (c : ServeCounts). Happens a b (ManyServed tag_of s n began lasting before after c.received c.replied))
+  ok_served a b (Ok c) h = happens_weaker a b _ _ h (λ es x. many_served c.received c.replied es x)
+  ok_served a b (Err e) h = tt
+
+  pub err_begun : (a b : Option (List Event)) (x : Result ServeCounts ServeFault) → 0 < n → IfErr x (λ fault. Happens a b (StopsServing tag_of (end_of began lasting.minutes) s (begun began lasting.receives) old new fault))
+      → IfErr x (λ fault. Happens a b (ManyBegun tag_of s n began lasting before after fault))
+  err_begun a b (Ok c) some h = tt
+  err_begun a b (Err e) some h = happens_weaker a b _ _ h (λ es x. many_begun e es some x)
 
 -- ---- where nothing was begun
 
@@ -231,43 +258,3 @@ nothing_begun tag_of s n began lasting table = record {
   whole = refl;
   ended = inl refl;
 }
-
-pub opened_alone : (tag_of : Tags) (s : ServeSetting) (n began : ℕ) (lasting : Lasting) (turn : TurnState TableState) (row : List TablePass) (table after : TableState) (calls : ℕ) → Closed TableMay TableStep table_after turn row after calls → turn.start ≡ table → row ≡ all_fresh turn
-    → ManyBegun tag_of s n began lasting table after Out_of_memory []
-opened_alone tag_of s n began lasting turn row table after calls t start is = record {
-  ran = record {
-    tables = t.run;
-    tables_legal = subst (λ b. IsRun TableMay TableStep table_after b t.run) start t.legal;
-    tables_roles = none_made TableMay TableStep table_after turn row after calls t turn.roles refl is (λ (m : Made TableCall TableReply). m.role < n);
-    leaves = t.left ∙ ap (λ b. left_by table_after b t.run) start;
-    stores = [];
-    stores_legal = tt;
-    stores_roles = All-nil (λ (m : Made PeerCall PeerReply). m.role < n);
-    shelves = [];
-    shelves_legal = tt;
-    shelves_roles = All-nil (λ (m : Made ItemCall ItemReply). m.role < n);
-  };
-  batches = [];
-  front = [];
-  left = lasting.receives;
-  moment = began;
-  are = (refl, refl, refl);
-  done = All-nil (All (IsDone tag_of s));
-  each = λ w lt. record { tables = (calls_of w t.run, refl); stores = ([], refl); shelves = ([], refl) };
-  last = [];
-  whole = refl;
-  ended = inl refl;
-}
-
--- ---- what comes back
-
-module _ (tag_of : Tags) (s : ServeSetting) (n began : ℕ) (lasting : Lasting) (r : Rows) (before after : TableState) (table_calls : ℕ) (held : PeersState) (peers_calls : ℕ) (shelf : ItemsState) (items_calls : ℕ)
-    (t : Closed TableMay TableStep table_after r.tables r.table_row after table_calls) (p : Closed PeersMay PeersStep peers_after r.stores r.peers_row held peers_calls) (i : Closed ItemMay ItemStep item_after r.shelves r.items_row shelf items_calls)
-    (start : r.tables.start ≡ before) (no_peers : r.stores.start ≡ empty_peers before.per_address) (no_items : r.shelves.start ≡ empty_items before.per_address) (a b : Option (List Event)) where
-  pub ok_served : (x : Result ServeCounts ServeFault) → IfOk x (λ (c : ServeCounts). Happens a b (ServedBack tag_of s n began lasting c.received c.replied r)) → IfOk x (λ (c : ServeCounts). Happens a b (ManyServed tag_of s n began lasting before after c.received c.replied))
-  ok_served (Ok c) h = happens_weaker a b _ _ h (λ es x. many_served tag_of s n began lasting r before after table_calls held peers_calls shelf items_calls t p i start no_peers no_items c.received c.replied es x)
-  ok_served (Err e) h = tt
-
-  pub err_begun : (x : Result ServeCounts ServeFault) → 0 < n → IfErr x (λ fault. Happens a b (StoppedBack tag_of s n began lasting r fault)) → IfErr x (λ fault. Happens a b (ManyBegun tag_of s n began lasting before after fault))
-  err_begun (Ok c) some h = tt
-  err_begun (Err e) some h = happens_weaker a b _ _ h (λ es x. many_begun tag_of s n began lasting r before after table_calls held peers_calls shelf items_calls t p i start no_peers no_items e es some x)

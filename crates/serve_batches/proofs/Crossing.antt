@@ -1,7 +1,7 @@
 -- A worker with its slots may go to another thread, and who helps.
 use denote.RattleType.{RattleType}
-use denote.Param.Send.{IsSend, sendable}
-use denote.Param.SendFields.{declared_send}
+use denote.Param.Send.{IsSend, IsSync, sendable}
+use denote.Param.SendFields.{declared_send, declared_sync}
 use denote.Struct.Declared.{row}
 use Rattle.std.proofs.Crossing.{crosses}
 use Rattle.std.proofs.MapsCrossing.{BTreeMap-send}
@@ -21,7 +21,20 @@ use Rattle.bucket_tree.specs.contracts.buckets.Buckets.{the_row as buckets_row}
 use Rattle.sibling_list.proofs.Siblings.TheSendSync.{the_send as siblings_send}
 use Rattle.contact_table.proofs.seats.Seat.TheSendSync.{the_send as seat_send}
 use Rattle.contact_table.proofs.vouchers.Vouchers.TheSendSync.{the_send as vouchers_send}
-use Rattle.contact_table.specs.contracts.table.Table.{the_row as table_row}
+use Rattle.contact_table.specs.contracts.calls.TableCall as TableCall
+use Rattle.contact_table.specs.contracts.calls.TableReply as TableReply
+use Rattle.contact_table.specs.contracts.table.Table as Table
+use Rattle.contact_table.specs.contracts.table.TableSerial.TheImpl as TableSerial
+use Rattle.peer_store.specs.contracts.calls.PeerCall as PeerCall
+use Rattle.peer_store.specs.contracts.calls.PeerReply as PeerReply
+use Rattle.peer_store.specs.contracts.peers.Peers as Peers
+use Rattle.peer_store.specs.contracts.steps.PeersSerial.TheImpl as PeersSerial
+use Rattle.item_store.specs.contracts.calls.ItemCall as ItemCall
+use Rattle.item_store.specs.contracts.calls.ItemReply as ItemReply
+use Rattle.item_store.specs.contracts.items.Items as Items
+use Rattle.item_store.specs.contracts.serial.ItemsSerial.TheImpl as ItemsSerial
+use Rattle.turn_book.proofs.lock.Turn.TheSendSync.{the_sync as turn_sync}
+use Rattle.serve_crew.specs.contracts.turns.Turns.{the_row as turns_row, the_type as turns_type}
 use Rattle.peer_store.proofs.peers.Peers.TheSendSync.{the_send as peers_send}
 use Rattle.item_store.proofs.items.Items.TheSendSync.{the_send as items_send}
 use Rattle.turn_book.proofs.row.Pass.TheSendSync.{the_send as pass_send}
@@ -35,8 +48,14 @@ use Rattle.serve_batches.specs.contracts.staying.Mate.{the_type as mate_type, th
 pub buckets_send : IsSend buckets_row
 buckets_send = search (sendable, crosses, row_send, node_send) depth 14
 
-pub table_send : IsSend table_row
+pub table_send : IsSend Table.the_row
 table_send = search (sendable, BTreeMap-send, siblings_send, buckets_send, seat_send, contact_send, vouchers_send) depth 14
+
+pub turns_sync : IsSync turns_row
+turns_sync = declared_sync turns_type (
+  turn_sync Table.the_row TableCall.the_row TableReply.the_row TableSerial.ghosts table_send,
+  (turn_sync Peers.the_row PeerCall.the_row PeerReply.the_row PeersSerial.ghosts peers_send, (turn_sync Items.the_row ItemCall.the_row ItemReply.the_row ItemsSerial.ghosts items_send, tt)),
+)
 
 pub worker_send : IsSend worker_row
 worker_send = search (sendable, peers_send, items_send, pass_send, table_send) depth 20

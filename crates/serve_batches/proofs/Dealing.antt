@@ -7,10 +7,8 @@ use Rattle.std.proofs.lemmas.List.FromFn.{map-range_with_len_more, length-map-ra
 use Rattle.std.proofs.lemmas.List.Elements.{All-same, All-map}
 use Rattle.turn_book.proofs.Ended.{all_reverse}
 use Rattle.turn_book.specs.Turns.{TurnState, PassState, AreAll, fresh}
-use Rattle.contact_table.specs.TableState.{TableState}
-use Rattle.peer_store.specs.Peers.{PeersState}
-use Rattle.item_store.specs.Items.{ItemsState}
-use Rattle.serve_batches.specs.Crew.{CanWork}
+use Rattle.serve_crew.specs.Hands.{CanWork}
+use Rattle.serve_crew.specs.declared.turns.Turns.{Turns}
 use Rattle.serve_batches.specs.Passes.{new_hands, workers_of}
 use Rattle.serve_batches.specs.declared.shift.Shift.{Shift}
 
@@ -51,21 +49,21 @@ map_reverse f [] = refl
 map_reverse f (x ∷ xs) =
     ap (map f) (reverse-append (x ∷ []) xs) ∙ map-append f (reverse xs) (x ∷ []) ∙ ap (λ l. l ++ f x ∷ []) (map_reverse f xs) ∙ sym (reverse-append (f x ∷ []) (map f xs))
 
-module _ (tables : TurnState TableState) (stores : TurnState PeersState) (shelves : TurnState ItemsState) (n : ℕ) (crew : List Shift) (is : workers_of crew ≡ map (new_hands tables stores shelves) (range_with_len 0 n)) where
+module _ (turns : Turns) (n : ℕ) (crew : List Shift) (is : workers_of crew ≡ map (new_hands turns) (range_with_len 0 n)) where
   pub crew_count : length crew ≡ n
   crew_count =
       let e = ap length is in
       let l = length-map crew (λ (s : Shift). s.worker) in
-      let r = length-map-range_with_len (new_hands tables stores shelves) 0 n in
+      let r = length-map-range_with_len (new_hands turns) 0 n in
       omega (arith, e, l, r)
 
-  pub start_at : (w : ℕ) (d : Shift) → w < length crew → (slice_index_or crew w d).worker ≡ new_hands tables stores shelves w
+  pub start_at : (w : ℕ) (d : Shift) → w < length crew → (slice_index_or crew w d).worker ≡ new_hands turns w
   start_at w d lt =
       let below : w < n = (let c = crew_count in omega (arith, c, lt)) in
-      sym (get_or-map (λ (s : Shift). s.worker) crew w d d.worker lt) ∙ ap (λ l. get_or l w d.worker) is ∙ get_or-map-range_with_len (new_hands tables stores shelves) 0 n w w d.worker below (omega arith)
+      sym (get_or-map (λ (s : Shift). s.worker) crew w d d.worker lt) ∙ ap (λ l. get_or l w d.worker) is ∙ get_or-map-range_with_len (new_hands turns) 0 n w w d.worker below (omega arith)
 
-  pub crew_can : All (λ (s : Shift). CanWork tables stores shelves s.worker) crew
-  crew_can w d lt = subst (CanWork tables stores shelves) (sym (start_at w d lt)) (record { table = refl; peers = refl; items = refl })
+  pub crew_can : All (λ (s : Shift). CanWork turns s.worker) crew
+  crew_can w d lt = subst (CanWork turns) (sym (start_at w d lt)) (record { table = refl; peers = refl; items = refl })
 
 -- all passes are back
 module _ {S C R : Type 0} (turn : TurnState S) (pass_of : Shift → PassState C R) where

@@ -5,9 +5,9 @@ use Rattle.std.proofs.lemmas.List.{get_or-set_same, get_or-set_other, get_or_def
 use Rattle.node_serve.specs.Calls.{IsSetting}
 use Rattle.node_serve.specs.Sealing.{Tags}
 use Rattle.node_serve.specs.declared.setting.ServeSetting.{ServeSetting}
-use Rattle.serve_crew.specs.Hands.{SameHands}
+use Rattle.serve_crew.specs.Hands.{CanWork, SameHands}
 use Rattle.work_desk.specs.Rule.{AllDid, AllMay}
-use Rattle.serve_batches.specs.Crew.{CanWork, Worked, AllWorked, HasShares}
+use Rattle.serve_batches.specs.Crew.{Worked, AllWorked, HasShares}
 use Rattle.serve_batches.specs.Deeds.{Known, MayWork, DidWork, IsTold, AllTold, Serves, HasSetting}
 use Rattle.serve_batches.specs.Ring.{share}
 use Rattle.serve_batches.specs.Slots.{AnswersAll}
@@ -40,7 +40,7 @@ worked_told tag_of s given old mid new t u =
     }
 
 module _ (o : Option Known) (k : Known) (is : o ≡ Some k) (p : Place) (old mid : List Shift) (len : length mid ≡ length old) (told : AllTold p old mid) where
-  pub may_all : IsSetting k.setting → All (λ (s : Shift). CanWork k.tables k.stores k.shelves s.worker) old → HasShares p old → AllMay (MayWork o) mid
+  pub may_all : IsSetting k.setting → All (λ (s : Shift). CanWork k.turns s.worker) old → HasShares p old → AllMay (MayWork o) mid
   may_all set can shares = all_may (MayWork o) mid (λ w d lt. at_one w d (omega (arith, lt, len)))
     where
       at_one : (w : ℕ) (d : Shift) → w < length old → MayWork o (get_or mid w d)
@@ -49,7 +49,7 @@ module _ (o : Option Known) (k : Known) (is : o ≡ Some k) (p : Place) (old mid
             k,
             is,
             set,
-            subst (λ h. CanWork k.tables k.stores k.shelves h) (sym t.worker) (can w d lt),
+            subst (λ h. CanWork k.turns h) (sym t.worker) (can w d lt),
             subst (λ l. (get_or mid w d).given ≤ length l.items) (sym t.slots) (subst (λ n. n ≤ length (get_or old w d).slots.items) (sym t.given_is) (shares w d lt)),
           )
 
@@ -81,10 +81,10 @@ module _ (p : Place) (old : List Shift) where
 pub setting_known : (o : Option Known) (j : Known) → o ≡ Some j → HasSetting o j.setting
 setting_known o j is k is' = ap (λ (x : Known). x.setting) (ap (known_of j) (sym is ∙ is'))
 
-pub serves_known : (o : Option Known) (j : Known) → o ≡ Some j → Serves o j.tag_of j.tables j.stores j.shelves
+pub serves_known : (o : Option Known) (j : Known) → o ≡ Some j → Serves o j.tag_of j.turns
 serves_known o j is k is' =
     let same : j ≡ k = ap (known_of j) (sym is ∙ is') in
-    (ap (λ (x : Known). x.tag_of) same, ap (λ (x : Known). x.tables) same, ap (λ (x : Known). x.stores) same, ap (λ (x : Known). x.shelves) same)
+    (ap (λ (x : Known). x.tag_of) same, ap (λ (x : Known). x.turns) same)
 
 -- what one did whose setting and turns are those that are known
 pub did_known : (o : Option Known) (tag_of : Tags) (s : ServeSetting) (given : ℕ) (old new : Shift)

@@ -6,10 +6,6 @@ use Rattle.kad_base.specs.declared.types.Ip.TheVariants.{V4}
 use Rattle.kad_base.specs.declared.types.Event.{Event}
 use Rattle.serve_batches.specs.Ring.{share, in_order, item_at}
 use Rattle.serve_batches.specs.declared.place.Place.{Place}
-use Rattle.turn_book.specs.Turns.{TurnState}
-use Rattle.contact_table.specs.TableState.{TableState}
-use Rattle.peer_store.specs.Peers.{PeersState}
-use Rattle.item_store.specs.Items.{ItemsState}
 use Rattle.node_serve.specs.Receives.{sent_in, got_in}
 use Rattle.node_serve.specs.Sealing.{Tags}
 use Rattle.node_serve.specs.declared.node.Answered.TheVariants.{Silent}
@@ -71,12 +67,6 @@ pub record PutAt (p : Place) (old new : List Shift) : Type 0 where
   pub others : (w : ℕ) → w ≢ p.holder → datagrams_of new w ≡ datagrams_of old w
 
 -- ---- answers
-
--- the worker is of these three turns
-pub record CanWork (tables : TurnState TableState) (stores : TurnState PeersState) (shelves : TurnState ItemsState) (hands : Hands) : Type 0 where
-  pub table : hands.table.turn ≡ tables.id
-  pub peers : hands.peers.turn ≡ stores.id
-  pub items : hands.items.turn ≡ shelves.id
 
 -- each worker has slots for its share, where the next datagram would go to this place
 abbrev pub HasShares : Place → List Shift → Type 0

@@ -1,13 +1,11 @@
 -- What is fixed while a node serves, and what is done to a shift then.
 use Rattle.std.specs.Prelude.{◌≡◌, ℕ, ◌≤◌, ◌<◌, List, length, slice_index_or, Option, Some}
-use Rattle.turn_book.specs.Turns.{TurnState}
-use Rattle.contact_table.specs.TableState.{TableState}
-use Rattle.peer_store.specs.Peers.{PeersState}
-use Rattle.item_store.specs.Items.{ItemsState}
 use Rattle.node_serve.specs.Calls.{IsSetting}
 use Rattle.node_serve.specs.Sealing.{Tags}
 use Rattle.node_serve.specs.declared.setting.ServeSetting.{ServeSetting}
-use Rattle.serve_batches.specs.Crew.{CanWork, Worked}
+use Rattle.serve_crew.specs.Hands.{CanWork}
+use Rattle.serve_crew.specs.declared.turns.Turns.{Turns}
+use Rattle.serve_batches.specs.Crew.{Worked}
 use Rattle.serve_batches.specs.Ring.{share}
 use Rattle.serve_batches.specs.declared.place.Place.{Place}
 use Rattle.serve_batches.specs.declared.shift.Shift.{Shift}
@@ -16,16 +14,14 @@ use Rattle.serve_batches.specs.declared.shift.Shift.{Shift}
 pub record Known : Type 0 where
   pub tag_of : Tags
   pub setting : ServeSetting
-  pub tables : TurnState TableState
-  pub stores : TurnState PeersState
-  pub shelves : TurnState ItemsState
+  pub turns : Turns
 
-abbrev pub known : Tags → ServeSetting → TurnState TableState → TurnState PeersState → TurnState ItemsState → Known
-known tag_of s tables stores shelves = record { tag_of = tag_of; setting = s; tables = tables; stores = stores; shelves = shelves }
+abbrev pub known : Tags → ServeSetting → Turns → Known
+known tag_of s turns = record { tag_of = tag_of; setting = s; turns = turns }
 
 -- these are fixed, whatever the setting is
-abbrev pub Serves : Option Known → Tags → TurnState TableState → TurnState PeersState → TurnState ItemsState → Type 0
-Serves o tag_of tables stores shelves = (k : Known) → o ≡ Some k → (tag_of ≡ k.tag_of) × (tables ≡ k.tables) × (stores ≡ k.stores) × (shelves ≡ k.shelves)
+abbrev pub Serves : Option Known → Tags → Turns → Type 0
+Serves o tag_of turns = (k : Known) → o ≡ Some k → (tag_of ≡ k.tag_of) × (turns ≡ k.turns)
 
 -- this is the setting
 abbrev pub HasSetting : Option Known → ServeSetting → Type 0
@@ -33,7 +29,7 @@ HasSetting o s = (k : Known) → o ≡ Some k → s ≡ k.setting
 
 -- the shift is of these turns, and has a slot for each datagram that it is given
 abbrev pub MayWork : Option Known → Shift → Type 0
-MayWork o s = (k : Known) × (o ≡ Some k) × IsSetting k.setting × CanWork k.tables k.stores k.shelves s.worker × (s.given ≤ length s.slots.items)
+MayWork o s = (k : Known) × (o ≡ Some k) × IsSetting k.setting × CanWork k.turns s.worker × (s.given ≤ length s.slots.items)
 
 -- its worker answered them
 abbrev pub DidWork : Option Known → Shift → Shift → Type 0

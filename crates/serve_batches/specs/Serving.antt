@@ -3,21 +3,15 @@ use Rattle.std.specs.Prelude.{◌≡◌, ◌⊎◌, ℕ, ◌+◌, ◌<◌, true,
 use Rattle.std.specs.List.{All, flat_map}
 use Rattle.kad_base.specs.declared.types.Event.{Event}
 use Rattle.serve_batches.specs.Deal.{dealt}
-use Rattle.turn_book.specs.Turns.{TurnState}
-use Rattle.contact_table.specs.TableState.{TableState}
-use Rattle.peer_store.specs.Peers.{PeersState}
-use Rattle.item_store.specs.Items.{ItemsState}
 use Rattle.node_serve.specs.Calls.{Did}
-use Rattle.node_serve.specs.Lasting.{end_of, is_over}
+use Rattle.node_serve.specs.Lasting.{is_over}
 use Rattle.node_serve.specs.Receives.{got_in, sent_in}
 use Rattle.node_serve.specs.Sealing.{Tags}
-use Rattle.node_serve.specs.declared.lasting.Lasting.{Lasting}
 use Rattle.node_serve.specs.declared.service.ServeFault.{ServeFault}
 use Rattle.node_serve.specs.declared.setting.ServeSetting.{ServeSetting}
-use Rattle.serve_crew.specs.Hands.{Hands, TablePass, PeersPass, ItemsPass, SameHands, Grew}
+use Rattle.serve_crew.specs.Hands.{Hands, SameHands, Grew}
 use Rattle.serve_batches.specs.Batches.{Done, IsDone, IsBatch, Batches, calls_for}
 use Rattle.serve_batches.specs.ManyServed.{EndsEarly}
-use Rattle.serve_batches.specs.Passes.{new_hands, table_passes, peers_passes, items_passes}
 use Rattle.serve_batches.specs.declared.batch.Progress.{Progress}
 use Rattle.serve_batches.specs.declared.shift.Shift.{Shift}
 
@@ -51,6 +45,13 @@ pub record ServesBatches (tag_of : Tags) (limit : Option ℕ) (s : ServeSetting)
   pub received_are : q.received ≡ p.received + got_in events
   pub replied_are : q.replied ≡ p.replied + sent_in events
 
+-- all were, until no receive was left or the service was over, and so many datagrams came and so many replies were sent
+pub record ServesAll (tag_of : Tags) (limit : Option ℕ) (s : ServeSetting) (p : Progress) (received replied : ℕ) (old new : List Shift) (events : List Event) : Type 0 where
+  pub left : ℕ
+  pub moment : ℕ
+  pub ended : (left ≡ 0) ⊎ (is_over limit moment ≡ true)
+  pub served : ServesBatches tag_of limit s p (record { moment = moment; left = left; received = received; replied = replied }) old new events
+
 -- these calls, and maybe more
 abbrev pub GrewFirst : Hands → Hands → List Did → Type 0
 GrewFirst old new did = (rest : List Did) × Grew old new (did ++ rest)
@@ -67,55 +68,3 @@ pub record StopsServing (tag_of : Tags) (limit : Option ℕ) (s : ServeSetting) 
   pub last : List Event
   pub whole : events ≡ front ++ last
   pub ended : EndsEarly fault limit left moment last
-
--- ---- with the passes put back
-
--- the three turns, and the passes that are back in their rows
-pub record Rows : Type 0 where
-  pub tables : TurnState TableState
-  pub stores : TurnState PeersState
-  pub shelves : TurnState ItemsState
-  pub table_row : List TablePass
-  pub peers_row : List PeersPass
-  pub items_row : List ItemsPass
-
-abbrev pub rows : TurnState TableState → TurnState PeersState → TurnState ItemsState → List TablePass → List PeersPass → List ItemsPass → Rows
-rows tables stores shelves table_row peers_row items_row =
-    record { tables = tables; stores = stores; shelves = shelves; table_row = table_row; peers_row = peers_row; items_row = items_row }
-
--- the passes are those of this crew, each worker of which has its own role
-pub record AreBack (n : ℕ) (r : Rows) (crew : List Shift) : Type 0 where
-  pub count : length crew ≡ n
-  pub tables : r.table_row ≡ table_passes crew
-  pub peers : r.peers_row ≡ peers_passes crew
-  pub items : r.items_row ≡ items_passes crew
-  pub same : (w : ℕ) (d : Shift) → w < n → SameHands (new_hands r.tables r.stores r.shelves w) (slice_index_or crew w d).worker
-
--- the crew served all batches
-pub record ServedBack (tag_of : Tags) (s : ServeSetting) (n began : ℕ) (lasting : Lasting) (received replied : ℕ) (r : Rows) (events : List Event) : Type 0 where
-  pub crew : List Shift
-  pub back : AreBack n r crew
-  pub batches : List (List Done)
-  pub left : ℕ
-  pub end : ℕ
-  pub are : Batches (end_of began lasting.minutes) lasting.receives began batches events left end
-  pub ended : (left ≡ 0) ⊎ (is_over (end_of began lasting.minutes) end ≡ true)
-  pub done : All (All (IsDone tag_of s)) batches
-  pub grew : (w : ℕ) (d : Shift) → w < n → Grew (new_hands r.tables r.stores r.shelves w) (slice_index_or crew w d).worker (calls_for n w batches)
-  pub received_are : received ≡ got_in events
-  pub replied_are : replied ≡ sent_in events
-
--- the crew served some
-pub record StoppedBack (tag_of : Tags) (s : ServeSetting) (n began : ℕ) (lasting : Lasting) (r : Rows) (fault : ServeFault) (events : List Event) : Type 0 where
-  pub crew : List Shift
-  pub back : AreBack n r crew
-  pub batches : List (List Done)
-  pub front : List Event
-  pub left : ℕ
-  pub moment : ℕ
-  pub are : Batches (end_of began lasting.minutes) lasting.receives began batches front left moment
-  pub done : All (All (IsDone tag_of s)) batches
-  pub grew : (w : ℕ) (d : Shift) → w < n → GrewFirst (new_hands r.tables r.stores r.shelves w) (slice_index_or crew w d).worker (calls_for n w batches)
-  pub last : List Event
-  pub whole : events ≡ front ++ last
-  pub ended : EndsEarly fault (end_of began lasting.minutes) left moment last

@@ -7,24 +7,21 @@ ghost use Rattle.kad_base.specs.Outside.{Rose, Happens};
 ghost use Rattle.node_serve.specs.Calls.{IsSetting};
 ghost use Rattle.node_serve.specs.Lasting.{is_over};
 ghost use Rattle.node_serve.specs.declared.service.ServeFault.{ServeFault};
-ghost use Rattle.serve_batches.specs.Crew.{AreRoomy, CanWork};
+ghost use Rattle.serve_crew.specs.Hands.{CanWork};
+ghost use Rattle.serve_batches.specs.Crew.{AreRoomy};
 ghost use Rattle.serve_batches.specs.Deeds.{known};
 ghost use Rattle.serve_batches.specs.ManyServed.{EndsEarly};
 ghost use Rattle.serve_batches.specs.Serving.{GrewSome, SameRoles, ServesBatch, ServesBatches, StopsServing};
 
 use crate::crew::work_all;
-use crate::deed::{Serving, Way};
+use crate::deed::{Service, Serving, Way};
 use crate::receiving::receive_batch;
 use crate::replying::{all_went, send_replies};
 use crate::shift::Shift;
-use contact_table::Table;
-use item_store::Items;
 use kad_base::{Failed, Link, NoMemory};
 use node_serve::{ServeFault, ServeSetting, is_over};
-use peer_store::Peers;
 use seal_tags::Seal;
 use std::sync::Wait;
-use turn_book::Turn;
 use work_desk::Vacant;
 
 /// How far a service is: the moment that its link told last, how many receive calls are left, how many datagrams came, and
@@ -49,24 +46,21 @@ fn serve_batch<B: Serving, R: Wait, L: Link, G: Seal>(
     rt: &R,
     link: &mut L,
     setting: &mut ServeSetting,
-    tables: &Turn<Table>,
-    stores: &Turn<Peers>,
-    shelves: &Turn<Items>,
-    seal: &G,
-    end: Option<u64>,
+    service: &Service<G>,
     posts: &mut Vec<Vacant<Shift, Way<B>>>,
     crew: &mut Vec<Shift>,
     progress: &mut Progress,
 ) -> Result<(), ServeFault>
-    requires known { B.known ≡ Some (known (G.tag_of seal.now) setting.old tables.now stores.now shelves.now) }
+    requires known { B.known ≡ Some (known (G.tag_of service.now.seal.now) setting.old
+        service.now.turns.now) }
     requires setting { IsSetting setting.old }
     requires some { 0 < progress.old.left }
-    requires goes { is_over end progress.old.moment ≡ false }
+    requires goes { is_over service.now.end progress.old.moment ≡ false }
     requires few { progress.old.received + progress.old.left < 2 ^ 32 }
     requires fewer { progress.old.replied ≤ progress.old.received }
     requires workers { 0 < length crew.old.items }
     requires roomy { AreRoomy crew.old.items }
-    requires can { All (λ s. CanWork tables.now stores.now shelves.now s.worker) crew.old.items }
+    requires can { All (λ s. CanWork service.now.turns.now s.worker) crew.old.items }
     ensures setting { setting.new ≡ setting.old }
     ensures len { length crew.new.items ≡ length crew.old.items }
     ensures roomy { AreRoomy crew.new.items }
@@ -76,10 +70,10 @@ fn serve_batch<B: Serving, R: Wait, L: Link, G: Seal>(
     ensures counts { OnOk result (progress.new.received + progress.new.left
         ≤ progress.old.received + progress.old.left) }
     ensures ok { OnOk result (Happens (L.told link.old) (L.told link.new)
-        (ServesBatch (G.tag_of seal.now) end setting.old progress.old progress.new crew.old.items
+        (ServesBatch (G.tag_of service.now.seal.now) service.now.end setting.old progress.old progress.new crew.old.items
         crew.new.items)) }
     ensures err { IfErr result (λ fault. Happens (L.told link.old) (L.told link.new)
-        (EndsEarly fault end progress.old.left progress.old.moment)) }
+        (EndsEarly fault service.now.end progress.old.left progress.old.moment)) }
     ensures grew { GrewSome crew.old.items crew.new.items }
     ensures well { result ≢ Err ServeFault.LinkFault
         → L.recv_faults link.new ≡ L.recv_faults link.old }
@@ -90,7 +84,7 @@ fn serve_batch<B: Serving, R: Wait, L: Link, G: Seal>(
     ensures recv_faults { L.recv_faults link.old ≤ L.recv_faults link.new }
     ensures kept { L.kept link.new ≡ L.kept link.old }
 {
-    let batch = match receive_batch(link, crew, progress.moment, progress.left, end) {
+    let batch = match receive_batch(link, crew, progress.moment, progress.left, service.end) {
         Ok(batch) => batch,
         Err(Failed) => return Err(ServeFault::LinkFault),
     };
@@ -98,10 +92,7 @@ fn serve_batch<B: Serving, R: Wait, L: Link, G: Seal>(
     work_all(
         rt,
         setting,
-        tables,
-        stores,
-        shelves,
-        seal,
+        service,
         &batch.place,
         batch.moment,
         posts,
@@ -124,32 +115,29 @@ pub(crate) fn serve_each<B: Serving, R: Wait, L: Link, G: Seal>(
     rt: &R,
     link: &mut L,
     setting: &mut ServeSetting,
-    tables: &Turn<Table>,
-    stores: &Turn<Peers>,
-    shelves: &Turn<Items>,
-    seal: &G,
-    end: Option<u64>,
+    service: &Service<G>,
     posts: &mut Vec<Vacant<Shift, Way<B>>>,
     crew: &mut Vec<Shift>,
     progress: &mut Progress,
 ) -> Result<(), ServeFault>
-    requires known { B.known ≡ Some (known (G.tag_of seal.now) setting.old tables.now stores.now shelves.now) }
+    requires known { B.known ≡ Some (known (G.tag_of service.now.seal.now) setting.old
+        service.now.turns.now) }
     requires setting { IsSetting setting.old }
     requires few { progress.old.received + progress.old.left < 2 ^ 32 }
     requires fewer { progress.old.replied ≤ progress.old.received }
     requires workers { 0 < length crew.old.items }
     requires roomy { AreRoomy crew.old.items }
-    requires can { All (λ s. CanWork tables.now stores.now shelves.now s.worker) crew.old.items }
+    requires can { All (λ s. CanWork service.now.turns.now s.worker) crew.old.items }
     ensures setting { setting.new ≡ setting.old }
     ensures len { length crew.new.items ≡ length crew.old.items }
     ensures roles { SameRoles crew.old.items crew.new.items }
     ensures all { OnOk result ((progress.new.left ≡ 0)
-        ⊎ (is_over end progress.new.moment ≡ true)) }
+        ⊎ (is_over service.now.end progress.new.moment ≡ true)) }
     ensures ok { OnOk result (Happens (L.told link.old) (L.told link.new)
-        (ServesBatches (G.tag_of seal.now) end setting.old progress.old progress.new crew.old.items
+        (ServesBatches (G.tag_of service.now.seal.now) service.now.end setting.old progress.old progress.new crew.old.items
         crew.new.items)) }
     ensures err { IfErr result (λ fault. Happens (L.told link.old) (L.told link.new)
-        (StopsServing (G.tag_of seal.now) end setting.old progress.old crew.old.items
+        (StopsServing (G.tag_of service.now.seal.now) service.now.end setting.old progress.old crew.old.items
         crew.new.items fault)) }
     ensures well { result ≢ Err ServeFault.LinkFault
         → L.recv_faults link.new ≡ L.recv_faults link.old }
@@ -161,12 +149,10 @@ pub(crate) fn serve_each<B: Serving, R: Wait, L: Link, G: Seal>(
     ensures kept { L.kept link.new ≡ L.kept link.old }
 {
     while progress.left > 0 {
-        if is_over(end, progress.moment) {
+        if is_over(service.end, progress.moment) {
             return Ok(());
         }
-        match serve_batch(
-            rt, link, setting, tables, stores, shelves, seal, end, posts, crew, progress,
-        ) {
+        match serve_batch(rt, link, setting, service, posts, crew, progress) {
             Ok(()) => {}
             Err(fault) => return Err(fault),
         }

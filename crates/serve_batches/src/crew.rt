@@ -3,19 +3,16 @@ ghost use Rattle.std.specs.Prelude.{◌≡◌, ◌≤◌, ◌<◌, ◌+◌, ◌^
 ghost use Rattle.std.specs.List.{All};
 ghost use Rattle.serve_batches.specs.Ring.{share};
 ghost use Rattle.node_serve.specs.Calls.{IsSetting};
-ghost use Rattle.serve_batches.specs.Crew.{CanWork, AllWorked, HasShares};
+ghost use Rattle.serve_crew.specs.Hands.{CanWork};
+ghost use Rattle.serve_batches.specs.Crew.{AllWorked, HasShares};
 ghost use Rattle.serve_batches.specs.Deeds.{AllTold, known};
 
-use crate::deed::{Leading, Serving, Way};
+use crate::deed::{Leading, Service, Serving, Way};
 use crate::place::Place;
 use crate::shift::Shift;
-use contact_table::Table;
-use item_store::Items;
 use node_serve::ServeSetting;
-use peer_store::Peers;
 use seal_tags::Seal;
 use std::sync::Wait;
-use turn_book::Turn;
 use work_desk::{Vacant, work_out};
 
 /// Tells each worker how many datagrams it has, where the next one would go to this place, and the moment.
@@ -34,26 +31,23 @@ fn deal_shares(place: &Place, at: u64, crew: &mut [Shift])
 pub(crate) fn work_all<B: Serving, R: Wait, G: Seal>(
     rt: &R,
     setting: &ServeSetting,
-    tables: &Turn<Table>,
-    stores: &Turn<Peers>,
-    shelves: &Turn<Items>,
-    seal: &G,
+    service: &Service<G>,
     place: &Place,
     at: u64,
     posts: &mut Vec<Vacant<Shift, Way<B>>>,
     crew: &mut Vec<Shift>,
 )
-    requires known { B.known ≡ Some (known (G.tag_of seal.now) setting.now tables.now stores.now shelves.now) }
+    requires known { B.known ≡ Some (known (G.tag_of service.now.seal.now) setting.now service.now.turns.now) }
     requires setting { IsSetting setting.now }
     requires few { place.now.round + 1 < 2 ^ 64 }
     requires within { place.now.holder < length crew.old.items }
-    requires can { All (λ s. CanWork tables.now stores.now shelves.now s.worker) crew.old.items }
+    requires can { All (λ s. CanWork service.now.turns.now s.worker) crew.old.items }
     requires shares { HasShares place.now crew.old.items }
     ensures len { length crew.new.items ≡ length crew.old.items }
-    ensures each { AllWorked (G.tag_of seal.now) setting.now place.now crew.old.items
+    ensures each { AllWorked (G.tag_of service.now.seal.now) setting.now place.now crew.old.items
         crew.new.items }
 {
     deal_shares(place, at, crew.as_mut_slice());
-    let mut leading = Leading::new(setting, tables, stores, shelves, seal);
+    let mut leading = Leading::new(setting, service.turns, service.seal);
     work_out(rt, &mut leading, posts, crew);
 }

@@ -3,14 +3,11 @@ ghost use Rattle.std.specs.Prelude.{◌≡◌, Some};
 ghost use Rattle.serve_batches.specs.Deeds.{HasSetting, Serves, known};
 
 use crate::shift::Shift;
-use contact_table::Table;
-use item_store::Items;
 use node_serve::ServeSetting;
-use peer_store::Peers;
 use seal_tags::Seal;
+use serve_crew::{Desk, Turns};
 use std::marker::{Brand, PhantomData};
 use std::sync::Wait;
-use turn_book::Turn;
 use work_desk::{Deed, Doer};
 
 /// How many datagrams another thread is woken for. A tag costs about what waking does.
@@ -32,6 +29,14 @@ impl Serving for Brand {
     ghost known = { None };
 }
 
+/// What a node serves with: the turns over what it holds, the seal, and when the service ends.
+#[derive(Drop)]
+pub(crate) struct Service<'a, G: Seal> {
+    pub turns: &'a Turns,
+    pub seal: &'a G,
+    pub end: Option<u64>,
+}
+
 /// What is done: a worker answers its datagrams.
 pub(crate) struct Way<B> {
     of: PhantomData<B>,
@@ -49,32 +54,22 @@ impl<B: Serving> Deed<Shift> for Way<B> {
 #[derive(Drop)]
 pub(crate) struct Leading<'a, B: Serving, G: Seal> {
     setting: &'a ServeSetting,
-    tables: &'a Turn<Table>,
-    stores: &'a Turn<Peers>,
-    shelves: &'a Turn<Items>,
+    turns: &'a Turns,
     seal: &'a G,
     of: PhantomData<B>,
-    ghost is: { B.known ≡ Some (known (G.tag_of seal.now) setting.now tables.now stores.now shelves.now) },
+    ghost is: { B.known ≡ Some (known (G.tag_of seal.now) setting.now turns.now) },
 }
 
 impl<'a, B: Serving, G: Seal> Leading<'a, B, G> {
     ghost use Rattle.std.specs.Prelude.{◌≡◌, Some};
     ghost use Rattle.serve_batches.specs.Deeds.{known};
 
-    pub(crate) fn new(
-        setting: &'a ServeSetting,
-        tables: &'a Turn<Table>,
-        stores: &'a Turn<Peers>,
-        shelves: &'a Turn<Items>,
-        seal: &'a G,
-    ) -> Leading<'a, B, G>
-        requires is { B.known ≡ Some (known (G.tag_of seal.now) setting.now tables.now stores.now shelves.now) }
+    pub(crate) fn new(setting: &'a ServeSetting, turns: &'a Turns, seal: &'a G) -> Leading<'a, B, G>
+        requires is { B.known ≡ Some (known (G.tag_of seal.now) setting.now turns.now) }
     {
         Leading {
             setting,
-            tables,
-            stores,
-            shelves,
+            turns,
             seal,
             of: PhantomData,
         }
@@ -92,15 +87,11 @@ impl<'a, B: Serving, G: Seal> Doer<Shift, Way<B>> for Leading<'a, B, G> {
     }
 
     fn work<R: Wait>(&mut self, rt: &R, shift: &mut Shift) {
-        shift.work(
-            shift.given,
-            rt,
-            self.setting,
-            self.tables,
-            self.stores,
-            self.shelves,
-            self.seal,
-        );
+        let desk = Desk {
+            setting: self.setting,
+            turns: self.turns,
+        };
+        shift.work(shift.given, rt, &desk, self.seal);
     }
 }
 
@@ -134,32 +125,18 @@ impl<B: Serving> Own<B> {
 #[derive(Drop)]
 pub(crate) struct Helping<'a, B: Serving, G: Seal> {
     own: Own<B>,
-    tables: &'a Turn<Table>,
-    stores: &'a Turn<Peers>,
-    shelves: &'a Turn<Items>,
+    turns: &'a Turns,
     seal: &'a G,
-    ghost is: { Serves B.known (G.tag_of seal.now) tables.now stores.now shelves.now },
+    ghost is: { Serves B.known (G.tag_of seal.now) turns.now },
 }
 
 impl<'a, B: Serving, G: Seal> Helping<'a, B, G> {
     ghost use Rattle.serve_batches.specs.Deeds.{Serves};
 
-    pub(crate) fn new(
-        own: Own<B>,
-        tables: &'a Turn<Table>,
-        stores: &'a Turn<Peers>,
-        shelves: &'a Turn<Items>,
-        seal: &'a G,
-    ) -> Helping<'a, B, G>
-        requires { Serves B.known (G.tag_of seal.now) tables.now stores.now shelves.now }
+    pub(crate) fn new(own: Own<B>, turns: &'a Turns, seal: &'a G) -> Helping<'a, B, G>
+        requires { Serves B.known (G.tag_of seal.now) turns.now }
     {
-        Helping {
-            own,
-            tables,
-            stores,
-            shelves,
-            seal,
-        }
+        Helping { own, turns, seal }
     }
 }
 
@@ -170,14 +147,10 @@ impl<'a, B: Serving, G: Seal> Doer<Shift, Way<B>> for Helping<'a, B, G> {
 
     fn work<R: Wait>(&mut self, rt: &R, shift: &mut Shift) {
         self.own.renew(shift.at);
-        shift.work(
-            shift.given,
-            rt,
-            &self.own.setting,
-            self.tables,
-            self.stores,
-            self.shelves,
-            self.seal,
-        );
+        let desk = Desk {
+            setting: &self.own.setting,
+            turns: self.turns,
+        };
+        shift.work(shift.given, rt, &desk, self.seal);
     }
 }

@@ -18,5 +18,5 @@ mod slot;
 mod staying;
 
 pub use laws::each_has_its_share;
-pub use many::serve_many;
+pub use many::{Duty, serve_many};
 pub use place::Place;

@@ -1,18 +1,16 @@
 //! The passes of three turns, dealt to the workers and gathered again, and the slots of the workers.
-ghost use Rattle.std.specs.Prelude.{◌≡◌, ◌+◌, ◌-◌, ◌*◌, ◌<◌, ◌≤◌, ◌++◌, ◌∷◌, [], map, length, reverse, vec_capacity, IfOk};
+ghost use Rattle.std.specs.Prelude.{◌≡◌, ◌-◌, ◌*◌, ◌<◌, ◌≤◌, ◌++◌, ◌∷◌, [], map, length, reverse, vec_capacity, IfOk};
 ghost use Rattle.std.specs.List.{All, range_with_len};
 ghost use Rattle.turn_book.specs.Turns.{fresh};
 ghost use Rattle.serve_batches.specs.Crew.{HasSlots};
-ghost use Rattle.serve_batches.specs.Passes.{new_hands, workers_of, table_passes, peers_passes, items_passes};
+ghost use Rattle.serve_crew.specs.Opening.{AreEmpty, AreFresh};
+ghost use Rattle.serve_batches.specs.Passes.{HavePasses, new_hands, workers_of};
 
 use crate::receiving::MAX_BATCH;
 use crate::shift::Shift;
 use crate::slot::Slot;
-use contact_table::Table;
-use item_store::Items;
 use kad_base::{NoMemory, Serial};
-use peer_store::Peers;
-use serve_crew::ServeWorker;
+use serve_crew::{Rows, ServeWorker, Turns};
 use std::alloc::Global;
 use turn_book::{Pass, Passes, Turn};
 
@@ -73,38 +71,27 @@ fn take_slots(slots: &mut Vec<Vec<Slot>>, n: u8) -> Vec<Slot>
 /// Deals all passes to workers, the last role first.
 fn deal_last(
     alloc: Global,
-    tables: &Turn<Table>,
-    stores: &Turn<Peers>,
-    shelves: &Turn<Items>,
-    table_row: &mut Passes<Table>,
-    peers_row: &mut Passes<Peers>,
-    items_row: &mut Passes<Items>,
+    turns: &Turns,
+    rows: &mut Rows,
     mut slots: Vec<Vec<Slot>>,
     workers: u8,
     crew: &mut Vec<Shift>,
 )
-    requires tables { table_row.old.passes ≡ map (fresh tables.now.id) (range_with_len 0 workers) }
-    requires peers { peers_row.old.passes ≡ map (fresh stores.now.id) (range_with_len 0 workers) }
-    requires items { items_row.old.passes ≡ map (fresh shelves.now.id) (range_with_len 0 workers) }
+    requires fresh { AreFresh workers workers turns.now rows.old }
     requires slots { length slots.items ≡ workers }
     requires slot_room { All (λ s. 32 ≤ length s.items * workers) slots.items }
     requires empty { crew.old.items ≡ [] }
     requires room { workers ≤ vec_capacity crew.old }
-    ensures tables { table_row.new.passes ≡ [] }
-    ensures peers { peers_row.new.passes ≡ [] }
-    ensures items { items_row.new.passes ≡ [] }
-    ensures table_room { table_row.new.room ≡ table_row.old.room }
-    ensures peers_room { peers_row.new.room ≡ peers_row.old.room }
-    ensures items_room { items_row.new.room ≡ items_row.old.room }
+    ensures dealt { AreEmpty workers workers rows.new }
     ensures crew { workers_of crew.new.items
-        ≡ reverse (map (new_hands tables.now stores.now shelves.now) (range_with_len 0 workers)) }
+        ≡ reverse (map (new_hands turns.now) (range_with_len 0 workers)) }
     ensures slots { All (HasSlots workers) crew.new.items }
 {
     let mut left = workers;
     while left > 0 {
-        let table = take_last(tables, table_row, left);
-        let peers = take_last(stores, peers_row, left);
-        let items = take_last(shelves, items_row, left);
+        let table = take_last(&turns.table, &mut rows.table, left);
+        let peers = take_last(&turns.peers, &mut rows.peers, left);
+        let items = take_last(&turns.items, &mut rows.items, left);
         let taken = take_slots(&mut slots, left);
         left -= 1;
         crew.push_reserved(Shift {
@@ -126,57 +113,34 @@ fn turn_round(crew: &mut Vec<Shift>)
 /// Deals all passes to workers: worker w has role w of each turn.
 pub(crate) fn deal_passes(
     alloc: Global,
-    tables: &Turn<Table>,
-    stores: &Turn<Peers>,
-    shelves: &Turn<Items>,
-    table_row: &mut Passes<Table>,
-    peers_row: &mut Passes<Peers>,
-    items_row: &mut Passes<Items>,
+    turns: &Turns,
+    rows: &mut Rows,
     slots: Vec<Vec<Slot>>,
     workers: u8,
     crew: &mut Vec<Shift>,
 )
-    requires tables { table_row.old.passes ≡ map (fresh tables.now.id) (range_with_len 0 workers) }
-    requires peers { peers_row.old.passes ≡ map (fresh stores.now.id) (range_with_len 0 workers) }
-    requires items { items_row.old.passes ≡ map (fresh shelves.now.id) (range_with_len 0 workers) }
+    requires fresh { AreFresh workers workers turns.now rows.old }
     requires slots { length slots.items ≡ workers }
     requires slot_room { All (λ s. 32 ≤ length s.items * workers) slots.items }
     requires empty { crew.old.items ≡ [] }
     requires room { workers ≤ vec_capacity crew.old }
-    ensures tables { table_row.new.passes ≡ [] }
-    ensures peers { peers_row.new.passes ≡ [] }
-    ensures items { items_row.new.passes ≡ [] }
-    ensures table_room { table_row.new.room ≡ table_row.old.room }
-    ensures peers_room { peers_row.new.room ≡ peers_row.old.room }
-    ensures items_room { items_row.new.room ≡ items_row.old.room }
-    ensures crew { workers_of crew.new.items
-        ≡ map (new_hands tables.now stores.now shelves.now) (range_with_len 0 workers) }
+    ensures dealt { AreEmpty workers workers rows.new }
+    ensures crew { workers_of crew.new.items ≡ map (new_hands turns.now) (range_with_len 0 workers) }
     ensures slots { All (HasSlots workers) crew.new.items }
 {
-    deal_last(
-        alloc, tables, stores, shelves, table_row, peers_row, items_row, slots, workers, crew,
-    );
+    deal_last(alloc, turns, rows, slots, workers, crew);
     turn_round(crew);
 }
 
 /// Puts the passes of all workers back.
-pub(crate) fn gather_passes(
-    table_row: &mut Passes<Table>,
-    peers_row: &mut Passes<Peers>,
-    items_row: &mut Passes<Items>,
-    mut crew: Vec<Shift>,
-)
-    requires table_room { length table_row.old.passes + length crew.items ≤ table_row.old.room }
-    requires peers_room { length peers_row.old.passes + length crew.items ≤ peers_row.old.room }
-    requires items_room { length items_row.old.passes + length crew.items ≤ items_row.old.room }
-    ensures tables { table_row.new.passes ≡ table_row.old.passes ++ table_passes crew.items }
-    ensures peers { peers_row.new.passes ≡ peers_row.old.passes ++ peers_passes crew.items }
-    ensures items { items_row.new.passes ≡ items_row.old.passes ++ items_passes crew.items }
+pub(crate) fn gather_passes(rows: &mut Rows, mut crew: Vec<Shift>)
+    requires { AreEmpty (length crew.items) (length crew.items) rows.old }
+    ensures { HavePasses rows.new crew.items }
 {
     while let Some(shift) = crew.pop() {
         let (table, peers, items) = shift.worker.into_passes();
-        table_row.push(table);
-        peers_row.push(peers);
-        items_row.push(items);
+        rows.table.push(table);
+        rows.peers.push(peers);
+        rows.items.push(items);
     }
 }

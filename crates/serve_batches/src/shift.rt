@@ -3,20 +3,15 @@ ghost use Rattle.std.specs.Prelude.{◌≡◌, ◌≤◌, ◌<◌, [], length, s
 ghost use Rattle.kad_base.specs.Failing.{FailsLast};
 ghost use Rattle.kad_base.specs.Outside.{Grows, Rose};
 ghost use Rattle.node_serve.specs.Calls.{IsSetting};
-ghost use Rattle.serve_crew.specs.Hands.{SameHands};
-ghost use Rattle.serve_batches.specs.Crew.{CanWork, Worked, no_slot};
+ghost use Rattle.serve_crew.specs.Hands.{CanWork, SameHands};
+ghost use Rattle.serve_batches.specs.Crew.{Worked, no_slot};
 ghost use Rattle.serve_batches.specs.Slots.{AnswersAll, datagram_in, took_event, Took};
 
 use crate::slot::Slot;
-use contact_table::Table;
-use item_store::Items;
 use kad_base::{Came, Failed, Link};
-use node_serve::ServeSetting;
-use peer_store::Peers;
 use seal_tags::Seal;
-use serve_crew::ServeWorker;
+use serve_crew::{Desk, ServeWorker};
 use std::sync::Wait;
-use turn_book::Turn;
 
 /// A worker, the slots of the datagrams that it is to answer, how many of them it is given, and the moment at which it is.
 #[derive(Drop)]
@@ -50,26 +45,23 @@ fn receive_into<L: Link>(
     slots[round].receive(link, until)
 }
 
-/// Lets the worker answer the datagrams of a list, in order.
+/// Lets the worker answer the datagrams of a list at the desk, in order.
 fn answer_all<R: Wait, G: Seal>(
     worker: &mut ServeWorker,
     slots: &mut [Slot],
     rt: &R,
-    setting: &ServeSetting,
-    tables: &Turn<Table>,
-    stores: &Turn<Peers>,
-    shelves: &Turn<Items>,
+    desk: &Desk,
     seal: &G,
 )
-    requires setting { IsSetting setting.now }
-    requires can { CanWork tables.now stores.now shelves.now worker.old }
+    requires setting { IsSetting desk.now.setting.now }
+    requires can { CanWork desk.now.turns.now worker.old }
     ensures same { SameHands worker.old worker.new }
     ensures len { length slots.new ≡ length slots.old }
-    ensures answers { AnswersAll (G.tag_of seal.now) setting.now worker.old worker.new slots.old
-        slots.new }
+    ensures answers { AnswersAll (G.tag_of seal.now) desk.now.setting.now worker.old worker.new
+        slots.old slots.new }
 {
     for slot in slots.iter_mut() {
-        slot.answer(worker, rt, setting, tables, stores, shelves, seal);
+        slot.answer(worker, rt, desk, seal);
     }
 }
 
@@ -79,30 +71,18 @@ fn answer_first<R: Wait, G: Seal>(
     slots: &mut [Slot],
     given: usize,
     rt: &R,
-    setting: &ServeSetting,
-    tables: &Turn<Table>,
-    stores: &Turn<Peers>,
-    shelves: &Turn<Items>,
+    desk: &Desk,
     seal: &G,
 )
-    requires setting { IsSetting setting.now }
-    requires can { CanWork tables.now stores.now shelves.now worker.old }
+    requires setting { IsSetting desk.now.setting.now }
+    requires can { CanWork desk.now.turns.now worker.old }
     requires given { given ≤ length slots.old }
     ensures same { SameHands worker.old worker.new }
     ensures len { length slots.new ≡ length slots.old }
-    ensures answers { AnswersAll (G.tag_of seal.now) setting.now worker.old worker.new
+    ensures answers { AnswersAll (G.tag_of seal.now) desk.now.setting.now worker.old worker.new
         (take given slots.old) (take given slots.new) }
 {
-    answer_all(
-        worker,
-        &mut slots[..given],
-        rt,
-        setting,
-        tables,
-        stores,
-        shelves,
-        seal,
-    );
+    answer_all(worker, &mut slots[..given], rt, desk, seal);
 }
 
 impl Shift {
@@ -110,7 +90,8 @@ impl Shift {
     ghost use Rattle.kad_base.specs.Failing.{FailsLast};
     ghost use Rattle.kad_base.specs.Outside.{Grows, Rose};
     ghost use Rattle.node_serve.specs.Calls.{IsSetting};
-    ghost use Rattle.serve_batches.specs.Crew.{CanWork, Worked, no_slot};
+    ghost use Rattle.serve_crew.specs.Hands.{CanWork};
+    ghost use Rattle.serve_batches.specs.Crew.{Worked, no_slot};
     ghost use Rattle.serve_batches.specs.Deeds.{IsTold};
     ghost use Rattle.serve_batches.specs.Slots.{datagram_in, took_event, Took};
 
@@ -147,31 +128,19 @@ impl Shift {
         receive_into(self.slots.as_mut_slice(), round, link, until)
     }
 
-    /// Answers the datagrams of the first so many slots, in order.
-    pub(crate) fn work<R: Wait, G: Seal>(
-        &mut self,
-        given: usize,
-        rt: &R,
-        setting: &ServeSetting,
-        tables: &Turn<Table>,
-        stores: &Turn<Peers>,
-        shelves: &Turn<Items>,
-        seal: &G,
-    )
-        requires setting { IsSetting setting.now }
-        requires can { CanWork tables.now stores.now shelves.now self.old.worker }
+    /// Answers the datagrams of the first so many slots at the desk, in order.
+    pub(crate) fn work<R: Wait, G: Seal>(&mut self, given: usize, rt: &R, desk: &Desk, seal: &G)
+        requires setting { IsSetting desk.now.setting.now }
+        requires can { CanWork desk.now.turns.now self.old.worker }
         requires given { given ≤ length self.old.slots.items }
-        ensures { Worked (G.tag_of seal.now) setting.now given self.old self.new }
+        ensures { Worked (G.tag_of seal.now) desk.now.setting.now given self.old self.new }
     {
         answer_first(
             &mut self.worker,
             self.slots.as_mut_slice(),
             given,
             rt,
-            setting,
-            tables,
-            stores,
-            shelves,
+            desk,
             seal,
         );
     }

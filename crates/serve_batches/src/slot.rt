@@ -1,16 +1,12 @@
 //! A slot: a datagram that came, with room for its reply.
 
-use contact_table::Table;
-use item_store::Items;
 use kad_base::limits::{MAX_DATAGRAM, RECEIVE_ROOM};
 use kad_base::{Addr, Came, Failed, Ip, Link, NoMemory};
-use node_serve::{Answered, ServeSetting};
-use peer_store::Peers;
+use node_serve::Answered;
 use seal_tags::Seal;
-use serve_crew::ServeWorker;
+use serve_crew::{Datagram, Desk, ServeWorker};
 use std::marker::Model;
 use std::sync::Wait;
-use turn_book::Turn;
 
 /// A datagram, where it came from and when, and what became of it: its reply, where one is owed, stands in front of `out`.
 #[derive(Drop)]
@@ -41,7 +37,7 @@ impl Slot {
     ghost use Rattle.node_serve.specs.Calls.{IsSetting};
     ghost use Rattle.node_serve.specs.Receives.{sent_in};
     ghost use Rattle.node_serve.specs.declared.node.Answered.{Answered};
-    ghost use Rattle.serve_crew.specs.Hands.{SameHands};
+    ghost use Rattle.serve_crew.specs.Hands.{CanWork, SameHands};
     ghost use Rattle.serve_batches.specs.Slots.{Took, took_event, datagram_in, AnswersOne, Went, sends_of};
 
     /// A slot of which nothing was made yet.
@@ -83,37 +79,26 @@ impl Slot {
         }
     }
 
-    /// Lets the worker answer the datagram.
+    /// Lets the worker answer the datagram at the desk.
     pub(crate) fn answer<R: Wait, G: Seal>(
         &mut self,
         worker: &mut ServeWorker,
         rt: &R,
-        setting: &ServeSetting,
-        tables: &Turn<Table>,
-        stores: &Turn<Peers>,
-        shelves: &Turn<Items>,
+        desk: &Desk,
         seal: &G,
     )
-        requires setting { IsSetting setting.now }
-        requires table { worker.old.table.turn ≡ tables.now.id }
-        requires peers { worker.old.peers.turn ≡ stores.now.id }
-        requires items { worker.old.items.turn ≡ shelves.now.id }
+        requires setting { IsSetting desk.now.setting.now }
+        requires can { CanWork desk.now.turns.now worker.old }
         ensures same { SameHands worker.old worker.new }
-        ensures answers { AnswersOne (G.tag_of seal.now) setting.now worker.old worker.new
+        ensures answers { AnswersOne (G.tag_of seal.now) desk.now.setting.now worker.old worker.new
             self.old self.new }
     {
-        self.answered = worker.answer(
-            rt,
-            setting,
-            tables,
-            stores,
-            shelves,
-            self.from,
-            &self.room[..self.length],
-            self.at,
-            seal,
-            &mut self.out,
-        );
+        let datagram = Datagram {
+            from: self.from,
+            bytes: &self.room[..self.length],
+            at: self.at,
+        };
+        self.answered = worker.answer(rt, desk, &datagram, seal, &mut self.out);
     }
 
     /// Whether there was memory for the answer.

@@ -1,29 +1,28 @@
 //! The threads that help for as long as a node serves.
-ghost use Rattle.std.specs.Prelude.{◌≡◌, ◌≢◌, ◌⊎◌, ◌+◌, ◌≤◌, ◌<◌, ◌^◌, true, length, Some, IfErr, OnOk};
+ghost use Rattle.std.specs.Prelude.{◌≡◌, ◌≢◌, ◌⊎◌, ◌+◌, ◌≤◌, ◌<◌, ◌^◌, true, length, Some, IfOk, IfErr, OnOk};
 ghost use Rattle.std.specs.List.{All};
 ghost use Rattle.kad_base.specs.Failing.{FailsLast};
 ghost use Rattle.kad_base.specs.Outside.{Rose, Happens};
 ghost use Rattle.node_serve.specs.Calls.{IsSetting};
 ghost use Rattle.node_serve.specs.Lasting.{is_over};
 ghost use Rattle.node_serve.specs.declared.service.ServeFault.{ServeFault};
-ghost use Rattle.serve_batches.specs.Crew.{AreRoomy, CanWork};
+ghost use Rattle.serve_crew.specs.Hands.{CanWork};
+ghost use Rattle.serve_batches.specs.Crew.{AreRoomy};
 ghost use Rattle.serve_batches.specs.Deeds.{HasSetting, Serves, known};
-ghost use Rattle.serve_batches.specs.Serving.{SameRoles, ServesBatches, StopsServing};
+ghost use Rattle.serve_batches.specs.Serving.{SameRoles, ServesAll, ServesBatches, StopsServing, begun};
 
 use crate::batch::{Progress, serve_each};
-use crate::deed::{Helping, Own, Serving, Way};
+use crate::deed::{Helping, Own, Service, Serving, Way};
+use crate::many::Duty;
 use crate::shift::Shift;
-use contact_table::Table;
-use item_store::Items;
 use kad_base::{Link, NoMemory};
-use node_serve::{ServeFault, ServeSetting};
-use peer_store::Peers;
+use node_serve::{ServeCounts, ServeFault, ServeSetting};
 use seal_tags::Seal;
+use serve_crew::Turns;
 use std::alloc::Global;
 use std::sync::Wait;
 use std::thread;
 use std::thread::Threads;
-use turn_book::Turn;
 use work_desk::{Helper, Vacant, open};
 
 /// The most threads that help.
@@ -36,22 +35,22 @@ struct Mate<B: Serving> {
     own: Own<B>,
 }
 
+/// The posts at which the thread that serves finds who helps, and who helps.
+#[derive(Drop)]
+struct Help<B: Serving> {
+    posts: Vec<Vacant<Shift, Way<B>>>,
+    mates: Vec<Option<Mate<B>>>,
+}
+
 impl<B: Serving> Mate<B> {
     ghost use Rattle.serve_batches.specs.Deeds.{Serves};
 
     /// Helps until the desk is closed.
-    fn stay<R: Wait, G: Seal>(
-        self,
-        rt: &R,
-        tables: &Turn<Table>,
-        stores: &Turn<Peers>,
-        shelves: &Turn<Items>,
-        seal: &G,
-    )
-        requires { Serves B.known (G.tag_of seal.now) tables.now stores.now shelves.now }
+    fn stay<R: Wait, G: Seal>(self, rt: &R, turns: &Turns, seal: &G)
+        requires { Serves B.known (G.tag_of seal.now) turns.now }
     {
         let Mate { mut helper, own } = self;
-        let mut helping = Helping::new(own, tables, stores, shelves, seal);
+        let mut helping = Helping::new(own, turns, seal);
         helper.help(rt, &mut helping);
     }
 }
@@ -60,15 +59,13 @@ impl<B: Serving> Mate<B> {
 fn stay_at<B: Serving, R: Wait, G: Seal>(
     place: &mut Option<Mate<B>>,
     rt: &R,
-    tables: &Turn<Table>,
-    stores: &Turn<Peers>,
-    shelves: &Turn<Items>,
+    turns: &Turns,
     seal: &G,
 )
-    requires { Serves B.known (G.tag_of seal.now) tables.now stores.now shelves.now }
+    requires { Serves B.known (G.tag_of seal.now) turns.now }
 {
     if let Some(mate) = place.take() {
-        mate.stay(rt, tables, stores, shelves, seal);
+        mate.stay(rt, turns, seal);
     }
 }
 
@@ -76,19 +73,19 @@ fn stay_at<B: Serving, R: Wait, G: Seal>(
 fn open_desks<B: Serving>(
     alloc: Global,
     setting: &ServeSetting,
-    workers: u8,
-    posts: &mut Vec<Vacant<Shift, Way<B>>>,
-    mates: &mut Vec<Option<Mate<B>>>,
-) -> Result<(), NoMemory>
+    workers: usize,
+) -> Result<Help<B>, NoMemory>
     requires setting { HasSetting B.known setting.now }
 {
+    let mut posts = Vec::new(alloc);
+    let mut mates = Vec::new(alloc);
     for _ in 1..workers {
         let (post, helper) = open(alloc)?;
         let own = Own::new(setting.another(alloc)?);
         mates.push(Some(Mate { helper, own }))?;
         posts.push(post)?;
     }
-    Ok(())
+    Ok(Help { posts, mates })
 }
 
 /// Waits a while for all who help, or until one hasn't come.
@@ -110,21 +107,19 @@ fn close_all<B: Serving>(posts: &[Vacant<Shift, Way<B>>]) {
 /// Helps, each in a thread of its own, until the desks are closed.
 fn stay_all<B: Serving + Send + Sync, R: Threads + Wait + Sync, G: Seal + Sync>(
     rt: &R,
-    tables: &Turn<Table>,
-    stores: &Turn<Peers>,
-    shelves: &Turn<Items>,
+    turns: &Turns,
     seal: &G,
     mates: &mut [Option<Mate<B>>],
 )
-    requires serves { Serves B.known (G.tag_of seal.now) tables.now stores.now shelves.now }
+    requires serves { Serves B.known (G.tag_of seal.now) turns.now }
 {
     thread::for_each_mut(
         rt,
         mates,
         MAX_MATES,
         &|_: usize, place: &mut Option<Mate<B>>|
-            requires { Serves B.known (G.tag_of seal.now) tables.now stores.now shelves.now }
-        { stay_at(place, rt, tables, stores, shelves, seal) },
+            requires { Serves B.known (G.tag_of seal.now) turns.now }
+        { stay_at(place, rt, turns, seal) },
     );
 }
 
@@ -133,31 +128,28 @@ fn serve_beside<B: Serving, R: Wait, L: Link, G: Seal>(
     rt: &R,
     link: &mut L,
     setting: &mut ServeSetting,
-    tables: &Turn<Table>,
-    stores: &Turn<Peers>,
-    shelves: &Turn<Items>,
-    seal: &G,
-    end: Option<u64>,
+    service: &Service<G>,
     posts: &mut Vec<Vacant<Shift, Way<B>>>,
     crew: &mut Vec<Shift>,
     progress: &mut Progress,
 ) -> Result<(), ServeFault>
-    requires known { B.known ≡ Some (known (G.tag_of seal.now) setting.old tables.now stores.now shelves.now) }
+    requires known { B.known ≡ Some (known (G.tag_of service.now.seal.now) setting.old
+        service.now.turns.now) }
     requires setting { IsSetting setting.old }
     requires few { progress.old.received + progress.old.left < 2 ^ 32 }
     requires fewer { progress.old.replied ≤ progress.old.received }
     requires workers { 0 < length crew.old.items }
     requires roomy { AreRoomy crew.old.items }
-    requires can { All (λ s. CanWork tables.now stores.now shelves.now s.worker) crew.old.items }
+    requires can { All (λ s. CanWork service.now.turns.now s.worker) crew.old.items }
     ensures len { length crew.new.items ≡ length crew.old.items }
     ensures roles { SameRoles crew.old.items crew.new.items }
     ensures all { OnOk result ((progress.new.left ≡ 0)
-        ⊎ (is_over end progress.new.moment ≡ true)) }
+        ⊎ (is_over service.now.end progress.new.moment ≡ true)) }
     ensures ok { OnOk result (Happens (L.told link.old) (L.told link.new)
-        (ServesBatches (G.tag_of seal.now) end setting.old progress.old progress.new crew.old.items
+        (ServesBatches (G.tag_of service.now.seal.now) service.now.end setting.old progress.old progress.new crew.old.items
         crew.new.items)) }
     ensures err { IfErr result (λ fault. Happens (L.told link.old) (L.told link.new)
-        (StopsServing (G.tag_of seal.now) end setting.old progress.old crew.old.items
+        (StopsServing (G.tag_of service.now.seal.now) service.now.end setting.old progress.old crew.old.items
         crew.new.items fault)) }
     ensures well { result ≢ Err ServeFault.LinkFault
         → L.recv_faults link.new ≡ L.recv_faults link.old }
@@ -169,9 +161,7 @@ fn serve_beside<B: Serving, R: Wait, L: Link, G: Seal>(
     ensures kept { L.kept link.new ≡ L.kept link.old }
 {
     meet_all(posts.as_slice());
-    let answer = serve_each(
-        rt, link, setting, tables, stores, shelves, seal, end, posts, crew, progress,
-    );
+    let answer = serve_each(rt, link, setting, service, posts, crew, progress);
     close_all(posts.as_slice());
     answer
 }
@@ -181,33 +171,29 @@ fn serve_together<B: Serving + Send + Sync, R: Threads + Wait + Sync, L: Link, G
     rt: &R,
     link: &mut L,
     setting: &mut ServeSetting,
-    tables: &Turn<Table>,
-    stores: &Turn<Peers>,
-    shelves: &Turn<Items>,
-    seal: &G,
-    end: Option<u64>,
-    posts: &mut Vec<Vacant<Shift, Way<B>>>,
-    mates: &mut [Option<Mate<B>>],
+    service: &Service<G>,
+    help: Help<B>,
     crew: &mut Vec<Shift>,
     progress: &mut Progress,
 ) -> Result<(), ServeFault>
-    requires serves { Serves B.known (G.tag_of seal.now) tables.now stores.now shelves.now }
-    requires known { B.known ≡ Some (known (G.tag_of seal.now) setting.old tables.now stores.now shelves.now) }
+    requires serves { Serves B.known (G.tag_of service.now.seal.now) service.now.turns.now }
+    requires known { B.known ≡ Some (known (G.tag_of service.now.seal.now) setting.old
+        service.now.turns.now) }
     requires setting { IsSetting setting.old }
     requires few { progress.old.received + progress.old.left < 2 ^ 32 }
     requires fewer { progress.old.replied ≤ progress.old.received }
     requires workers { 0 < length crew.old.items }
     requires roomy { AreRoomy crew.old.items }
-    requires can { All (λ s. CanWork tables.now stores.now shelves.now s.worker) crew.old.items }
+    requires can { All (λ s. CanWork service.now.turns.now s.worker) crew.old.items }
     ensures len { length crew.new.items ≡ length crew.old.items }
     ensures roles { SameRoles crew.old.items crew.new.items }
     ensures all { OnOk result ((progress.new.left ≡ 0)
-        ⊎ (is_over end progress.new.moment ≡ true)) }
+        ⊎ (is_over service.now.end progress.new.moment ≡ true)) }
     ensures ok { OnOk result (Happens (L.told link.old) (L.told link.new)
-        (ServesBatches (G.tag_of seal.now) end setting.old progress.old progress.new crew.old.items
+        (ServesBatches (G.tag_of service.now.seal.now) service.now.end setting.old progress.old progress.new crew.old.items
         crew.new.items)) }
     ensures err { IfErr result (λ fault. Happens (L.told link.old) (L.told link.new)
-        (StopsServing (G.tag_of seal.now) end setting.old progress.old crew.old.items
+        (StopsServing (G.tag_of service.now.seal.now) service.now.end setting.old progress.old crew.old.items
         crew.new.items fault)) }
     ensures well { result ≢ Err ServeFault.LinkFault
         → L.recv_faults link.new ≡ L.recv_faults link.old }
@@ -218,21 +204,25 @@ fn serve_together<B: Serving + Send + Sync, R: Threads + Wait + Sync, L: Link, G
     ensures recv_faults { L.recv_faults link.old ≤ L.recv_faults link.new }
     ensures kept { L.kept link.new ≡ L.kept link.old }
 {
+    let Help {
+        mut posts,
+        mut mates,
+    } = help;
+    let turns = service.turns;
+    let seal = service.seal;
+    let places = mates.as_mut_slice();
     let (_, answer) = thread::join_mut(
         rt,
         &mut ||
-            requires { Serves B.known (G.tag_of seal.now) tables.now stores.now shelves.now }
-        { stay_all(rt, tables, stores, shelves, seal, mates) },
-        &mut || {
-            serve_beside(
-                rt, link, setting, tables, stores, shelves, seal, end, posts, crew, progress,
-            )
-        },
+            requires { Serves B.known (G.tag_of seal.now) turns.now }
+        { stay_all(rt, turns, seal, places) },
+        &mut || serve_beside(rt, link, setting, service, &mut posts, crew, progress),
     );
     answer
 }
 
-/// Serves batch after batch by so many workers, the first of them this thread. Fails too where there is no memory for desks.
+/// Serves batch after batch by all workers of the crew, the first of them this thread, and says how much was served. Fails too
+/// where there is no memory for desks.
 pub(crate) fn serve_helped<
     B: Serving + Send + Sync,
     R: Threads + Wait + Sync,
@@ -241,34 +231,26 @@ pub(crate) fn serve_helped<
 >(
     rt: &R,
     alloc: Global,
-    workers: u8,
     link: &mut L,
-    setting: &mut ServeSetting,
-    tables: &Turn<Table>,
-    stores: &Turn<Peers>,
-    shelves: &Turn<Items>,
-    seal: &G,
-    end: Option<u64>,
+    mut setting: ServeSetting,
+    service: &Service<G>,
     crew: &mut Vec<Shift>,
-    progress: &mut Progress,
-) -> Result<(), ServeFault>
-    requires known { B.known ≡ Some (known (G.tag_of seal.now) setting.old tables.now stores.now shelves.now) }
-    requires setting { IsSetting setting.old }
-    requires few { progress.old.received + progress.old.left < 2 ^ 32 }
-    requires fewer { progress.old.replied ≤ progress.old.received }
+    duty: Duty,
+) -> Result<ServeCounts, ServeFault>
+    requires known { B.known ≡ Some (known (G.tag_of service.now.seal.now) setting service.now.turns.now) }
+    requires setting { IsSetting setting }
     requires workers { 0 < length crew.old.items }
     requires roomy { AreRoomy crew.old.items }
-    requires can { All (λ s. CanWork tables.now stores.now shelves.now s.worker) crew.old.items }
+    requires can { All (λ s. CanWork service.now.turns.now s.worker) crew.old.items }
     ensures len { length crew.new.items ≡ length crew.old.items }
     ensures roles { SameRoles crew.old.items crew.new.items }
-    ensures all { OnOk result ((progress.new.left ≡ 0)
-        ⊎ (is_over end progress.new.moment ≡ true)) }
-    ensures ok { OnOk result (Happens (L.told link.old) (L.told link.new)
-        (ServesBatches (G.tag_of seal.now) end setting.old progress.old progress.new crew.old.items
+    ensures ok { IfOk result (λ counts. Happens (L.told link.old) (L.told link.new)
+        (ServesAll (G.tag_of service.now.seal.now) service.now.end setting
+        (begun duty.began duty.lasting.receives) counts.received counts.replied crew.old.items
         crew.new.items)) }
     ensures err { IfErr result (λ fault. Happens (L.told link.old) (L.told link.new)
-        (StopsServing (G.tag_of seal.now) end setting.old progress.old crew.old.items
-        crew.new.items fault)) }
+        (StopsServing (G.tag_of service.now.seal.now) service.now.end setting
+        (begun duty.began duty.lasting.receives) crew.old.items crew.new.items fault)) }
     ensures well { result ≢ Err ServeFault.LinkFault
         → L.recv_faults link.new ≡ L.recv_faults link.old }
     ensures link_fault { result ≡ Err ServeFault.LinkFault
@@ -278,24 +260,21 @@ pub(crate) fn serve_helped<
     ensures recv_faults { L.recv_faults link.old ≤ L.recv_faults link.new }
     ensures kept { L.kept link.new ≡ L.kept link.old }
 {
-    let mut posts: Vec<Vacant<Shift, Way<B>>> = Vec::new(alloc);
-    let mut mates: Vec<Option<Mate<B>>> = Vec::new(alloc);
-    match open_desks(alloc, setting, workers, &mut posts, &mut mates) {
-        Ok(()) => {}
+    let help: Help<B> = match open_desks(alloc, &setting, crew.len()) {
+        Ok(help) => help,
         Err(NoMemory) => return Err(ServeFault::NoMemory),
+    };
+    let mut progress = Progress {
+        moment: duty.began,
+        left: duty.lasting.receives,
+        received: 0,
+        replied: 0,
+    };
+    match serve_together(rt, link, &mut setting, service, help, crew, &mut progress) {
+        Ok(()) => Ok(ServeCounts {
+            received: progress.received,
+            replied: progress.replied,
+        }),
+        Err(fault) => Err(fault),
     }
-    serve_together(
-        rt,
-        link,
-        setting,
-        tables,
-        stores,
-        shelves,
-        seal,
-        end,
-        &mut posts,
-        mates.as_mut_slice(),
-        crew,
-        progress,
-    )
 }

@@ -22,11 +22,11 @@ use command_base::{Call, Status};
 use contact_table::Table;
 use kad_base::{Bytes, Check, Family, Id, Link, List, NoMemory, Reports, Source};
 use kad_words::ServeWords;
-use node_serve::{Lasting, Node, ServeCounts, ServeFault, ServeSetting, serve_loop};
+use node_serve::{Lasting, Node, Profile, ServeCounts, ServeFault, ServeSetting, serve_loop};
 use node_tokens::Tokens;
 use path_worker::PacedCheck;
 use seal_tags::{Seal, SealCheck};
-use serve_batches::serve_many;
+use serve_batches::{Duty, serve_many};
 use std::alloc::Global;
 use std::sync::Wait;
 use std::thread::Threads;
@@ -135,17 +135,14 @@ fn serve_alone<L: Link, C: PacedCheck, G: Seal + SealCheck>(
 {
     let Host { table, proofs } = host;
     let began = link.now();
-    let node = Node::new(
-        alloc,
+    let profile = Profile {
         own,
-        service.k,
-        service.policy,
-        table,
-        proofs,
-        &call.random,
+        k: service.k,
+        policy: service.policy,
         began,
-        service.sealed,
-    );
+        sealed: service.sealed,
+    };
+    let node = Node::new(alloc, profile, table, proofs, &call.random);
     serve_loop(link, node, call.seal, began, lasts(service))
 }
 
@@ -191,17 +188,12 @@ fn serve_at_once<R: Threads + Wait + Sync, L: Link, C: PacedCheck, G: Seal + Sea
         sealed: service.sealed,
         proof: None,
     };
-    serve_many(
-        rt,
-        alloc,
-        link,
-        call.seal,
-        setting,
-        table,
+    let duty = Duty {
+        workers: service.workers,
         began,
-        service.workers,
-        lasts(service),
-    )
+        lasting: lasts(service),
+    };
+    serve_many(rt, alloc, link, call.seal, setting, table, duty)
 }
 
 /// Serves by as many workers as the words say.

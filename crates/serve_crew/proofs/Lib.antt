@@ -1,3 +1,4 @@
 pub mod Growing
 pub mod Responding
 pub mod Remembering
+pub mod Untouched

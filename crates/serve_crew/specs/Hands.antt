@@ -4,19 +4,17 @@ use Rattle.std.specs.List.{flat_map}
 use Rattle.kad_base.specs.declared.types.Contact.{Contact}
 use Rattle.kad_base.specs.declared.serial.Made.{Made}
 use Rattle.kad_base.specs.Serial.{made}
-use Rattle.turn_book.specs.Turns.{TurnState, PassState, mine}
-use Rattle.contact_table.specs.TableState.{TableState}
+use Rattle.turn_book.specs.Turns.{PassState, mine}
 use Rattle.contact_table.specs.Told.{HasMemory}
 use Rattle.contact_table.specs.declared.calls.TableCall.{TableCall}
 use Rattle.contact_table.specs.declared.calls.TableCall.TheVariants.{Seen}
 use Rattle.contact_table.specs.declared.calls.TableReply.{TableReply}
-use Rattle.peer_store.specs.Peers.{PeersState}
 use Rattle.peer_store.specs.declared.calls.PeerCall.{PeerCall}
 use Rattle.peer_store.specs.declared.calls.PeerReply.{PeerReply}
-use Rattle.item_store.specs.Items.{ItemsState}
 use Rattle.item_store.specs.declared.calls.ItemCall.{ItemCall}
 use Rattle.item_store.specs.declared.calls.ItemReply.{ItemReply}
 use Rattle.node_serve.specs.Calls.{Did, on_table, on_peers, on_items}
+use Rattle.serve_crew.specs.declared.turns.Turns.{Turns}
 
 -- the passes of each turn
 abbrev pub TablePass : Type 0
@@ -92,7 +90,7 @@ abbrev pub does : Hands → Did → Hands → Type 0
 does old d new = SameHands old new × Grew old new (d ∷ [])
 
 -- the passes are of these turns
-pub record CanWork (tables : TurnState TableState) (stores : TurnState PeersState) (shelves : TurnState ItemsState) (h : Hands) : Type 0 where
-  pub table : h.table.turn ≡ tables.id
-  pub peers : h.peers.turn ≡ stores.id
-  pub items : h.items.turn ≡ shelves.id
+pub record CanWork (turns : Turns) (h : Hands) : Type 0 where
+  pub table : h.table.turn ≡ turns.table.id
+  pub peers : h.peers.turn ≡ turns.peers.id
+  pub items : h.items.turn ≡ turns.items.id

@@ -3,6 +3,9 @@
 #![tactic(auto)]
 
 mod desk;
+mod turns;
 mod worker;
 
-pub use worker::ServeWorker;
+pub use desk::Desk;
+pub use turns::{Rows, Turns};
+pub use worker::{Datagram, ServeWorker};

@@ -22,7 +22,7 @@ use contact_table::{Table, TableCall, TableReply};
 use item_store::{ItemCall, ItemReply, Items};
 use kad_base::limits::MAX_DATAGRAM;
 use kad_base::{Addr, Contact, NoMemory, Serial};
-use node_serve::{Answered, Asked, ServeSetting, read_query, respond};
+use node_serve::{Answered, Asked, read_query, respond};
 use peer_store::{PeerCall, PeerReply, Peers};
 use seal_tags::Seal;
 use std::alloc::Global;
@@ -44,6 +44,14 @@ fn reply_to<S: Serial, R: Wait>(
     ensures step { (s : S) × S.step s pass.old.role call result }
 {
     turn.call(rt, pass, call)
+}
+
+/// A datagram that came: from where, and when, in milliseconds.
+#[derive(Clone, Copy)]
+pub struct Datagram<'a> {
+    pub from: Addr,
+    pub bytes: &'a [u8],
+    pub at: u64,
 }
 
 /// A worker, with passes of one role at a turn over the routing table, one over the peers and one over the items that a
@@ -152,9 +160,9 @@ impl ServeWorker {
         out: &mut [u8; MAX_DATAGRAM],
     ) -> Result<usize, NoMemory>
         requires setting { IsSetting desk.now.setting.now }
-        requires table { self.old.table.turn ≡ desk.now.table.now.id }
-        requires peers { self.old.peers.turn ≡ desk.now.peers.now.id }
-        requires items { self.old.items.turn ≡ desk.now.items.now.id }
+        requires table { self.old.table.turn ≡ desk.now.turns.now.table.id }
+        requires peers { self.old.peers.turn ≡ desk.now.turns.now.peers.id }
+        requires items { self.old.items.turn ≡ desk.now.turns.now.items.id }
         requires ip { ip_bytes asked.now.from.ip ≡ asked.now.ip }
         requires short { length asked.now.tx.now ≤ max_answered_tx }
         requires said { IsSaid (ask_seen asked.now.ask) }
@@ -166,47 +174,35 @@ impl ServeWorker {
         let alloc = self.alloc;
         let mut hold = AtDesk {
             rt,
-            desk,
+            turns: desk.turns,
             worker: self,
         };
         respond(&mut hold, alloc, desk.setting, asked, at, seal, out)
     }
 
-    /// Answers a datagram that came from this address at this moment, in milliseconds. Its reply is written in front of
-    /// `out`, made from what the calls for it were replied, and tagged where the setting is sealed. Where no reply is owed
-    /// it makes no call. `NoMemory` leaves the calls that were made before. Reading, writing and tagging take no memory;
-    /// the parts of the reply do, and an item that is put.
+    /// Answers a datagram at the desk. Its reply is written in front of `out`, made from what the calls for it were replied,
+    /// and tagged where the setting is sealed. Where no reply is owed it makes no call. `NoMemory` leaves the calls that were
+    /// made before. Reading, writing and tagging take no memory; the parts of the reply do, and an item that is put.
     pub fn answer<R: Wait, G: Seal>(
         &mut self,
         rt: &R,
-        setting: &ServeSetting,
-        tables: &Turn<Table>,
-        stores: &Turn<Peers>,
-        shelves: &Turn<Items>,
-        from: Addr,
-        bytes: &[u8],
-        at: u64,
+        desk: &Desk,
+        datagram: &Datagram,
         seal: &G,
         out: &mut [u8; MAX_DATAGRAM],
     ) -> Answered
-        requires setting { IsSetting setting.now }
-        requires table { self.old.table.turn ≡ tables.now.id }
-        requires peers { self.old.peers.turn ≡ stores.now.id }
-        requires items { self.old.items.turn ≡ shelves.now.id }
+        requires setting { IsSetting desk.now.setting.now }
+        requires table { self.old.table.turn ≡ desk.now.turns.now.table.id }
+        requires peers { self.old.peers.turn ≡ desk.now.turns.now.peers.id }
+        requires items { self.old.items.turn ≡ desk.now.turns.now.items.id }
         ensures same { SameHands self.old self.new }
-        ensures silent { (result ≡ Answered.Silent) ↔ IsSilent from bytes.now }
-        ensures answers { Answers (G.tag_of seal.now) setting.now from bytes.now at result out.new
-            self.old self.new }
+        ensures silent { (result ≡ Answered.Silent) ↔ IsSilent datagram.now.from datagram.now.bytes.now }
+        ensures answers { Answers (G.tag_of seal.now) desk.now.setting.now datagram.now.from
+            datagram.now.bytes.now datagram.now.at result out.new self.old self.new }
     {
-        let desk = Desk {
-            setting,
-            table: tables,
-            peers: stores,
-            items: shelves,
-        };
-        match read_query(from, bytes) {
+        match read_query(datagram.from, datagram.bytes) {
             None => Answered::Silent,
-            Some(asked) => match self.answer_query(rt, &desk, &asked, at, seal, out) {
+            Some(asked) => match self.answer_query(rt, desk, &asked, datagram.at, seal, out) {
                 Ok(length) => Answered::Reply(length),
                 Err(NoMemory) => Answered::NoMemory,
             },

@@ -11,7 +11,9 @@ use Rattle.node_serve.specs.declared.lasting.Lasting.{Lasting}
 use Rattle.node_serve.specs.declared.setting.ServeSetting.{ServeSetting}
 use Rattle.node_serve.specs.Lasting.{end_of}
 use Rattle.node_serve.specs.Sealing.{Tags}
-use Rattle.serve_crew.specs.Hands.{Hands, SameHands, hands}
+use Rattle.serve_crew.specs.Hands.{Hands, SameHands}
+use Rattle.serve_crew.specs.declared.turns.Turns.{Turns}
+use Rattle.serve_crew.specs.declared.turns.Rows.{Rows}
 use Rattle.lookup_crowd.specs.declared.seeker.Seeker.{Seeker}
 use Rattle.lookup_crowd.specs.declared.seeker.ManyFault.{ManyFault}
 use Rattle.lookup_crowd.specs.inner.Crowd.{Stand}
@@ -20,7 +22,7 @@ use Rattle.look_many.specs.declared.found.Many.{Many}
 use Rattle.look_many.specs.declared.job.Job.{Job}
 use Rattle.look_many.specs.ManyLooked.{AreSent}
 use Rattle.look_many.specs.inner.Going.{WentWhole, EndsWhole}
-use Rattle.look_many.specs.inner.Seats.{IsSeekerFor, IsDone, IsHanded, Rows, AreBack}
+use Rattle.look_many.specs.inner.Seats.{IsSeekerFor, IsDone, IsHanded, AreBack, new_host}
 
 -- what all were given
 pub record Task : Type 0 where
@@ -35,24 +37,24 @@ abbrev pub task : Accepts → Tags → ServeSetting → ManySetting → List Job
 task accepts tags server setting jobs lasting = record { accepts = accepts; tags = tags; server = server; setting = setting; jobs = jobs; lasting = lasting }
 
 -- where they begin: each with its book and a pass that made no call, the moment was told, and nothing else was done
-pub record Starts (k : Task) (r : Rows) (words : WordsState) (told : Option (List Event)) (s : Stand) : Type 0 where
-  pub seekers : AllZip (IsSeekerFor k.server k.setting r.tables.start) k.jobs s.seekers
-  pub passes : map (λ x. x.pass) s.seekers ≡ map (fresh r.tables.id) (range_with_len 1 (length k.jobs))
-  pub host : s.host ≡ hands (fresh r.tables.id 0) (fresh r.stores.id 0) (fresh r.shelves.id 0)
+pub record Starts (k : Task) (turns : Turns) (words : WordsState) (told : Option (List Event)) (s : Stand) : Type 0 where
+  pub seekers : AllZip (IsSeekerFor k.server k.setting turns.table.start) k.jobs s.seekers
+  pub passes : map (λ x. x.pass) s.seekers ≡ map (fresh turns.table.id) (range_with_len 1 (length k.jobs))
+  pub host : s.host ≡ new_host turns
   pub progress : s.progress ≡ record { moment = s.progress.moment; receives = 0; foreign = 0; left = k.lasting.receives; end = end_of s.progress.moment k.lasting.minutes; received = 0; replied = 0; unsaid = 0 }
   pub words_are : s.words ≡ words
   pub now_told : Grows told s.told (λ events. events ≡ Now s.progress.moment ∷ [])
 
 -- all are over, and this is what they found
-pub record FoundBack (k : Task) (r : Rows) (words words' : WordsState) (told told' : Option (List Event)) (many : Many) : Type 0 where
+pub record FoundBack (k : Task) (turns : Turns) (rows : Rows) (words words' : WordsState) (told told' : Option (List Event)) (many : Many) : Type 0 where
   pub old : Stand
   pub new : Stand
   pub owners : List ℕ
   pub said : List ℕ
-  pub starts : Starts k r words told old
+  pub starts : Starts k turns words told old
   pub went : WentWhole k.accepts k.tags k.server k.jobs old new owners said
   pub same : SameHands old.host new.host
-  pub back : AreBack r new.host new.seekers
+  pub back : AreBack rows new.host new.seekers
   pub told_is : new.told ≡ told'
   pub words_are : new.words ≡ words'
   pub found : AllZip (λ x one. IsDone x.lookup.book one) new.seekers many.outcomes
@@ -63,11 +65,11 @@ pub record FoundBack (k : Task) (r : Rows) (words words' : WordsState) (told tol
   pub replied_are : many.replied ≡ new.progress.replied
 
 -- they ended early
-pub record StoppedBack (k : Task) (r : Rows) (words words' : WordsState) (told told' : Option (List Event)) (fault : ManyFault) : Type 0 where
+pub record StoppedBack (k : Task) (turns : Turns) (rows : Rows) (words words' : WordsState) (told told' : Option (List Event)) (fault : ManyFault) : Type 0 where
   pub old : Stand
-  pub starts : Starts k r words told old
+  pub starts : Starts k turns words told old
   pub host : Hands
   pub seekers : List Seeker
   pub len : length seekers ≡ length old.seekers
   pub ends : EndsWhole fault k.accepts k.tags k.server k.jobs old words' host told'
-  pub back : AreBack r host seekers
+  pub back : AreBack rows host seekers

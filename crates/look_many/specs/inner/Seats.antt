@@ -8,10 +8,10 @@ use Rattle.claim_book.specs.State.{BookState}
 use Rattle.contact_table.specs.TableState.{TableState}
 use Rattle.lookup_core.specs.declared.gather.Gathered.{Gathered}
 use Rattle.lookup_core.specs.Gathered.{IsBare, IsEachOnce}
-use Rattle.turn_book.specs.Turns.{TurnState}
-use Rattle.peer_store.specs.Peers.{PeersState}
-use Rattle.item_store.specs.Items.{ItemsState}
-use Rattle.serve_crew.specs.Hands.{Hands, TablePass, PeersPass, ItemsPass}
+use Rattle.turn_book.specs.Turns.{fresh}
+use Rattle.serve_crew.specs.Hands.{Hands, hands}
+use Rattle.serve_crew.specs.declared.turns.Turns.{Turns}
+use Rattle.serve_crew.specs.declared.turns.Rows.{Rows}
 use Rattle.node_serve.specs.declared.setting.ServeSetting.{ServeSetting}
 use Rattle.lookup_crowd.specs.declared.seeker.Seeker.{Seeker}
 use Rattle.lookup_crowd.specs.Mine.{driven}
@@ -79,24 +79,15 @@ abbrev pub RolesFrom : ℕ → List Seeker → Type 0
 RolesFrom r [] = Unit {0}
 RolesFrom r (k ∷ ks) = (k.pass.role ≡ r) × RolesFrom (suc r) ks
 
--- the three turns, and the passes that are back in their rows
-pub record Rows : Type 0 where
-  pub tables : TurnState TableState
-  pub stores : TurnState PeersState
-  pub shelves : TurnState ItemsState
-  pub table_row : List TablePass
-  pub peers_row : List PeersPass
-  pub items_row : List ItemsPass
-
-abbrev pub rows : TurnState TableState → TurnState PeersState → TurnState ItemsState → List TablePass → List PeersPass → List ItemsPass → Rows
-rows tables stores shelves table_row peers_row items_row =
-    record { tables = tables; stores = stores; shelves = shelves; table_row = table_row; peers_row = peers_row; items_row = items_row }
+-- the node that serves before its first call
+abbrev pub new_host : Turns → Hands
+new_host turns = hands (fresh turns.table.id 0) (fresh turns.peers.id 0) (fresh turns.items.id 0)
 
 -- the passes are those of the node that serves and of all lookups
-pub record AreBack (r : Rows) (host : Hands) (seekers : List Seeker) : Type 0 where
-  pub tables : r.table_row ≡ host.table ∷ map (λ k. k.pass) (reverse seekers)
-  pub peers : r.peers_row ≡ host.peers ∷ []
-  pub items : r.items_row ≡ host.items ∷ []
+pub record AreBack (rows : Rows) (host : Hands) (seekers : List Seeker) : Type 0 where
+  pub table : rows.table.passes ≡ host.table ∷ map (λ k. k.pass) (reverse seekers)
+  pub peers : rows.peers.passes ≡ host.peers ∷ []
+  pub items : rows.items.passes ≡ host.items ∷ []
   pub driver : host.table.role ≡ 0
   pub driver_peers : host.peers.role ≡ 0
   pub driver_items : host.items.role ≡ 0

@@ -40,7 +40,7 @@ use Rattle.node_serve.specs.Receives.{tried}
 use Rattle.node_serve.specs.Lasting.{is_over, waits_to}
 use Rattle.node_serve.specs.Sealing.{Tags}
 use Rattle.serve_crew.specs.Hands.{Hands, Grew, SameHands, SamePass}
-use Rattle.lookup_crowd.specs.declared.host.Desk.{Desk}
+use Rattle.serve_crew.specs.declared.desk.Desk.{Desk}
 use Rattle.lookup_crowd.specs.declared.seeker.Seeker.{Seeker}
 use Rattle.lookup_crowd.specs.declared.seeker.Progress.{Progress}
 use Rattle.lookup_crowd.specs.declared.seeker.ManyFault.{ManyFault}
@@ -208,9 +208,9 @@ after_paid progress false = progress
 -- the worker's passes are of the turns of the desk, in the role of the driver
 pub record IsOfDesk (desk : Desk) (host : Hands) : Type 0 where
   pub driver : host.table.role ≡ 0
-  pub table : host.table.turn ≡ desk.table.now.id
-  pub peers : host.peers.turn ≡ desk.peers.now.id
-  pub items : host.items.turn ≡ desk.items.now.id
+  pub table : host.table.turn ≡ desk.turns.now.table.id
+  pub peers : host.peers.turn ≡ desk.turns.now.peers.id
+  pub items : host.items.turn ≡ desk.turns.now.items.id
 
 -- the last foreign datagram that is taken while a query is open
 pub record IsLastForeign (accepts : Accepts) (from : Addr) (bytes : List ℕ) (busy : Bool) (ks : List Seeker) (progress : Progress) : Type 0 where

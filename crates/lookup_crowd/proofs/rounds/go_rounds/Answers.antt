@@ -35,7 +35,7 @@ returns-in-Err-clause-ends g c =
     ends_behind (g.G.SealCheck.accepted c.args.seal.now) (g.G.Seal.tag_of c.args.seal.now) c.args.desk.now.setting.now c.in-Err.fault _ (stand c.rounds.seekers c.rounds.progress c.rounds.words c.rounds.host (g.L.Link.told c.rounds.link)) _ _ _ _ _ c.rounds.invariant.gone c.in-Err.ensures.ends
 
 pub settle_all-requires-clause-own : goal.settle_all-requires-clause-own
-settle_all-requires-clause-own g c κs within = seated_still c.args.desk.now.table.now c.rounds.seekers c.ask_and_receive.new.seekers c.rounds.invariant.seated c.ask_and_receive.ensures.seats
+settle_all-requires-clause-own g c κs within = seated_still c.args.desk.now.turns.now.table c.rounds.seekers c.ask_and_receive.new.seekers c.rounds.invariant.seated c.ask_and_receive.ensures.seats
 
 pub settle_all-requires-clause-policy : goal.settle_all-requires-clause-policy
 settle_all-requires-clause-policy g c κs within = ready_policy _ c.ask_and_receive.new.seekers (c.in-Ok-true.ensures.received c.in-Ok-true.field-0-test).ready
@@ -62,7 +62,7 @@ rounds-preserved g c =
       same = hands_then c.args.host.now c.rounds.host c.ask_and_receive.new.host c.rounds.invariant.same c.ask_and_receive.ensures.same;
       len = c.settle_all.ensures.len ∙ c.ask_and_receive.ensures.len ∙ c.rounds.invariant.len;
       seats = seats_then c.args.seekers.now c.ask_and_receive.new.seekers c.settle_all.new.seekers seats settled;
-      seated = seated_still c.args.desk.now.table.now c.ask_and_receive.new.seekers c.settle_all.new.seekers (seated_still c.args.desk.now.table.now c.rounds.seekers c.ask_and_receive.new.seekers c.rounds.invariant.seated c.ask_and_receive.ensures.seats) settled;
+      seated = seated_still c.args.desk.now.turns.now.table c.ask_and_receive.new.seekers c.settle_all.new.seekers (seated_still c.args.desk.now.turns.now.table c.rounds.seekers c.ask_and_receive.new.seekers c.rounds.invariant.seated c.ask_and_receive.ensures.seats) settled;
       moment = c.in-Ok-true.ensures.moment;
       recv_faults = c.ask_and_receive.ensures.well (λ is. cc) ∙ c.rounds.invariant.recv_faults;
       loses = loses_then c.args.seekers.now c.ask_and_receive.new.seekers c.settle_all.new.seekers _ _ _ (loses_then c.args.seekers.now c.rounds.seekers c.ask_and_receive.new.seekers _ _ _ c.rounds.invariant.loses c.in-Ok-true.ensures.loses)

@@ -13,7 +13,7 @@ invariant-rounds g l = record {
   same : SameHands l.fn.host l.host;
   len : length l.seekers ≡ length l.fn.seekers;
   seats : SameSeats l.fn.seekers l.seekers;
-  seated : AllByRecursion (IsSeated l.desk.table.now) l.seekers;
+  seated : AllByRecursion (IsSeated l.desk.turns.now.table) l.seekers;
   moment : g.L.Link.moment l.link ≡ l.progress.moment;
   recv_faults : g.L.Link.recv_faults l.link ≡ g.L.Link.recv_faults l.fn.link;
   loses : LosesMore l.fn.seekers l.seekers (g.L.Link.send_faults l.fn.link) (g.L.Link.send_faults l.link);

@@ -14,14 +14,14 @@ loop-progress-init g c = record {
   roles = roles_none c.args.crew.now.items;
   few = c.requires.few;
   fewer = c.requires.fewer;
-  served = served_none (g.G.Seal.tag_of c.args.seal.now) c.args.end c.args.setting.now c.args.progress.now c.args.crew.now.items _;
+  served = served_none (g.G.Seal.tag_of c.args.service.now.seal.now) c.args.service.now.end c.args.setting.now c.args.progress.now c.args.crew.now.items _;
   faults = search rules;
   well = refl;
   kept = refl;
 }
 
 pub serve_batch-requires-clause-can : goal.serve_batch-requires-clause-can
-serve_batch-requires-clause-can g c = can_by_roles c.args.tables.now c.args.stores.now c.args.shelves.now c.args.crew.now.items c.loop-progress.crew.items c.loop-progress.invariant.len c.loop-progress.invariant.roles c.requires.can
+serve_batch-requires-clause-can g c = can_by_roles c.args.service.now.turns.now c.args.crew.now.items c.loop-progress.crew.items c.loop-progress.invariant.len c.loop-progress.invariant.roles c.requires.can
 
 pub serve_batch-requires-clause-goes : goal.serve_batch-requires-clause-goes
 serve_batch-requires-clause-goes g c = sym c.is_over.ensures ∙ c.if-is_over.false
@@ -43,8 +43,8 @@ loop-progress-preserved g c =
       roles = roles_more c.args.crew.now.items c.loop-progress.crew.items c.serve_batch.new.crew.items i.len i.roles c.serve_batch.ensures.roles;
       few = omega (arith, few, counts);
       fewer = c.in-Ok.ensures.fewer;
-      served = served_more (g.G.Seal.tag_of c.args.seal.now) c.args.end c.args.setting.now c.args.progress.now c.loop-progress.progress c.serve_batch.new.progress c.args.crew.now.items c.loop-progress.crew.items c.serve_batch.new.crew.items _ _ _ i.len i.roles i.served
-          (subst (λ s. Happens (g.L.Link.told c.loop-progress.link) (g.L.Link.told c.serve_batch.new.link) (ServesBatch (g.G.Seal.tag_of c.args.seal.now) c.args.end s c.loop-progress.progress c.serve_batch.new.progress c.loop-progress.crew.items c.serve_batch.new.crew.items)) i.setting c.in-Ok.ensures.ok);
+      served = served_more (g.G.Seal.tag_of c.args.service.now.seal.now) c.args.service.now.end c.args.setting.now c.args.progress.now c.loop-progress.progress c.serve_batch.new.progress c.args.crew.now.items c.loop-progress.crew.items c.serve_batch.new.crew.items _ _ _ i.len i.roles i.served
+          (subst (λ s. Happens (g.L.Link.told c.loop-progress.link) (g.L.Link.told c.serve_batch.new.link) (ServesBatch (g.G.Seal.tag_of c.args.service.now.seal.now) c.args.service.now.end s c.loop-progress.progress c.serve_batch.new.progress c.loop-progress.crew.items c.serve_batch.new.crew.items)) i.setting c.in-Ok.ensures.ok);
       faults = omega (arith, faults, more);
       well = c.serve_batch.ensures.well (λ e. cc) ∙ i.well;
       kept = c.serve_batch.ensures.kept ∙ i.kept;
@@ -53,7 +53,7 @@ loop-progress-preserved g c =
 pub returns-in-Err-clause-err : goal.returns-in-Err-clause-err
 returns-in-Err-clause-err g c =
     let i = c.loop-progress.invariant in
-    served_stops (g.G.Seal.tag_of c.args.seal.now) c.args.end c.args.setting.now c.args.progress.now c.loop-progress.progress c.args.crew.now.items c.loop-progress.crew.items c.serve_batch.new.crew.items c.in-Err.fault _ _ _ i.len i.roles i.served c.in-Err.ensures.err c.serve_batch.ensures.grew
+    served_stops (g.G.Seal.tag_of c.args.service.now.seal.now) c.args.service.now.end c.args.setting.now c.args.progress.now c.loop-progress.progress c.args.crew.now.items c.loop-progress.crew.items c.serve_batch.new.crew.items c.in-Err.fault _ _ _ i.len i.roles i.served c.in-Err.ensures.err c.serve_batch.ensures.grew
 
 pub returns-in-Err-clause-roles : goal.returns-in-Err-clause-roles
 returns-in-Err-clause-roles g c =

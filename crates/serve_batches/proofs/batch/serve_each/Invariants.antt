@@ -12,7 +12,7 @@ invariant-loop-progress g l = record {
   roles : SameRoles l.fn.crew.items l.crew.items;
   few : l.progress.received + l.progress.left < 2 ^ 32;
   fewer : l.progress.replied ≤ l.progress.received;
-  served : Happens (g.L.Link.told l.fn.link) (g.L.Link.told l.link) (ServesBatches (g.G.Seal.tag_of l.seal) l.fn.end l.fn.setting l.fn.progress l.progress l.fn.crew.items l.crew.items);
+  served : Happens (g.L.Link.told l.fn.link) (g.L.Link.told l.link) (ServesBatches (g.G.Seal.tag_of l.service.seal.now) l.fn.service.end l.fn.setting l.fn.progress l.progress l.fn.crew.items l.crew.items);
   faults : g.L.Link.recv_faults l.fn.link ≤ g.L.Link.recv_faults l.link;
   well : g.L.Link.recv_faults l.link ≡ g.L.Link.recv_faults l.fn.link;
   kept : g.L.Link.kept l.link ≡ g.L.Link.kept l.fn.link;

@@ -12,5 +12,5 @@ returns-clause-each g c =
     let told : AllTold c.args.place.now c.args.crew.now.items mid = search rules in
     let len : length mid ≡ length c.args.crew.now.items = search rules in
     let whole : (with_items c.args.crew.now mid).items ≡ mid = with_items_is c.args.crew.now mid (grind (arith, len)) in
-    worked_all g.B.Serving.known (known (g.G.Seal.tag_of c.args.seal.now) c.args.setting.now c.args.tables.now c.args.stores.now c.args.shelves.now) c.requires.known c.args.place.now c.args.crew.now.items mid len told c.work_out.new.crew.items
+    worked_all g.B.Serving.known (known (g.G.Seal.tag_of c.args.service.now.seal.now) c.args.setting.now c.args.service.now.turns.now) c.requires.known c.args.place.now c.args.crew.now.items mid len told c.work_out.new.crew.items
     (subst (λ l. AllDid (DidWork g.B.Serving.known) l c.work_out.new.crew.items) whole c.work_out.ensures.did)

@@ -13,7 +13,7 @@ use Rattle.serve_batches.proofs.passes.deal_passes.Goals as goal
 pub returns-clause-crew : goal.returns-clause-crew
 returns-clause-crew c =
     ap workers_of c.turn_round.ensures ∙ map_reverse (λ (s : Shift). s.worker) c.deal_last.new.crew.items ∙ ap reverse c.deal_last.ensures.crew
-    ∙ reverse-reverse (map (new_hands c.args.tables.now c.args.stores.now c.args.shelves.now) (range_with_len 0 c.args.workers))
+    ∙ reverse-reverse (map (new_hands c.args.turns.now) (range_with_len 0 c.args.workers))
 
 pub returns-clause-slots : goal.returns-clause-slots
 returns-clause-slots c =
