@@ -313,6 +313,11 @@ class Process:
                 pass
         return spent / 1e9
 
+    def in_system(self):
+        """Its processor time in the system's calls in seconds, all threads together, in hundredths."""
+        with open("/proc/%d/stat" % self.pid) as file:
+            return int(file.read().rsplit(")", 1)[1].split()[12]) / os.sysconf("SC_CLK_TCK")
+
     def memory(self):
         """Its memory in the machine (RSS), in MiB."""
         with open("/proc/%d/statm" % self.pid) as file:
