@@ -1,6 +1,0 @@
-use Rattle.std.specs.List.{AllByRecursion}
-use Rattle.kad_krpc.specs.Form.{IsNode}
-use Rattle.node_trials.proofs.tests.crowd.far_ones.Given as goal
-
-abbrev pub invariant-loop-i : goal.invariant-loop-i
-invariant-loop-i l = AllByRecursion IsNode l.nodes

@@ -1,6 +1,0 @@
-use Rattle.std.specs.Prelude.{All}
-use Rattle.fake_net.specs.Scripts.{IsWritableEvent}
-use Rattle.node_trials.proofs.tests.crowd.near_answers.Given as goal
-
-abbrev pub invariant-loop-n : goal.invariant-loop-n
-invariant-loop-n l = All IsWritableEvent l.script

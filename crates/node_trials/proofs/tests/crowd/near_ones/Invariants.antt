@@ -1,6 +1,0 @@
-use Rattle.std.specs.List.{AllByRecursion}
-use Rattle.kad_krpc.specs.Form.{IsNode}
-use Rattle.node_trials.proofs.tests.crowd.near_ones.Given as goal
-
-abbrev pub invariant-loop-n : goal.invariant-loop-n
-invariant-loop-n l = AllByRecursion IsNode l.nodes

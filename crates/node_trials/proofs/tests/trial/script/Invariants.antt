@@ -1,6 +1,0 @@
-use Rattle.std.specs.Prelude.{All}
-use Rattle.fake_net.specs.Scripts.{IsWritableEvent}
-use Rattle.node_trials.proofs.tests.trial.script.Given as goal
-
-abbrev pub invariant-loop-row : goal.invariant-loop-row
-invariant-loop-row l = All IsWritableEvent l.script
