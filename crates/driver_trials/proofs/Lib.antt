@@ -1,0 +1,2 @@
+mod Failures
+pub mod Trying

@@ -1,0 +1,3 @@
+//! A counter and a routing table behind a turn, and paths that are settled.
+mod turn;
+mod worker;
