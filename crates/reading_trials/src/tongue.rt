@@ -1,3 +1,4 @@
+//! Bencode and messages both ways.
 mod asking;
 mod bencode;
 mod items;

@@ -1,0 +1,3 @@
+//! Tables as texts.
+mod read;
+mod text;
