@@ -1,8 +1,8 @@
 //! Contacts that are drawn by xorshift from a fixed seed.
 ghost use Rattle.std.specs.Prelude.{◌<◌, ◌≤◌};
 
-use crate::buckets::finds;
-use crate::flat::Flat;
+use crate::table::buckets::finds;
+use crate::table::flat::Flat;
 use bucket_tree::{Buckets, Prefix};
 use kad_base::{Addr, Contact, Id, Ip, NoMemory};
 use kad_distance::k_least;

@@ -1,7 +1,7 @@
 //! Tables whose contacts showed proofs, worked by hand. The node's own identifier is `number(0)`, and k and b are 1: a row has
 //! one live contact and one spare. A contact is named if it is live or one of the 16 siblings.
-use crate::buckets::{Whom, who};
-use crate::table::told;
+use crate::table::buckets::{Whom, who};
+use crate::table::table::told;
 use bucket_tree::{Gone, Seen};
 use contact_table::{Table, TableCall, TableReply};
 use kad_base::{Proof, Report, Serial};

@@ -1,3 +1,4 @@
+//! The book of claims worked by hand, with random calls beside a plain book, and at its limits.
 ghost use Rattle.std.specs.Prelude.{◌≢◌, ◌<◌, ℕ, IfOk};
 ghost use Rattle.claim_book.specs.Calls.{BookMay};
 

@@ -1,6 +1,6 @@
 //! Tables that are saved and made again. The node's own identifier is `number(0)`, and k and b are 1.
-use crate::buckets::{Whom, who};
-use crate::table::told;
+use crate::table::buckets::{Whom, who};
+use crate::table::table::told;
 use bucket_tree::TableFault;
 use contact_table::{Saved, Table};
 use kad_base::{Contacts, List, NoMemory};

@@ -1,5 +1,5 @@
 //! Examples worked by hand. The node's own identifier is `number(0)`, and k and b are 1.
-use crate::buckets::{Whom, are, who};
+use crate::table::buckets::{Whom, are, who};
 use bucket_tree::{Gone, Seen};
 use contact_table::{Table, TableCall, TableReply};
 use kad_base::{Addr, Contact, Contacts, Id, Ip, Serial};

@@ -1,7 +1,7 @@
 //! Buckets of 992 rows, and calls at both ends of each parameter.
 ghost use Rattle.std.specs.Prelude.{◌<◌, ◌≤◌};
 
-use crate::buckets::finds;
+use crate::table::buckets::finds;
 use bucket_tree::{Buckets, Gone, Seen};
 use kad_base::{Addr, Contact, Id, Ip};
 use std::alloc::Global;

@@ -2,7 +2,7 @@ use Rattle.std.proofs.Common.{subst, sym, ◌∙◌}
 use Rattle.std.specs.List.Sorted.{IsStrictlySortedBy}
 use Rattle.kad_distance.specs.Order.{closeness}
 use Rattle.kad_distance.proofs.Chosen.{closest_rises}
-use Rattle.table_trials.proofs.measure.place_among.Goals as goal
+use Rattle.state_trials.proofs.table.measure.place_among.Goals as goal
 
 pub place-requires : goal.place-requires
 place-requires c =

@@ -1,6 +1,6 @@
 //! Rows that come back as buckets, and rows that are none. The node's own identifier is 20 zero bytes, and those of
 //! contacts begin with the byte that names them.
-use crate::buckets::{Whom, told, who};
+use crate::table::buckets::{Whom, told, who};
 use bucket_tree::{Buckets, Live, Lives, Prefix, Row, Rows, TableFault};
 use kad_base::{Contacts, List, NoMemory};
 use std::alloc::Global;

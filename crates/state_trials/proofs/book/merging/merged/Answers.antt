@@ -3,7 +3,7 @@ use Rattle.std.specs.List.Sorted.{IsStrictlySortedBy}
 use Rattle.std.proofs.lemmas.List.Elements.{All-nil, All-cons}
 use Rattle.kad_distance.specs.Order.{closeness}
 use Rattle.kad_distance.proofs.Chosen.{closest_rises}
-use Rattle.book_trials.proofs.tests.merging.merged.Goals as goal
+use Rattle.state_trials.proofs.book.merging.merged.Goals as goal
 
 pub merge-requires : goal.merge-requires
 merge-requires c =
