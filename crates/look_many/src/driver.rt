@@ -23,7 +23,7 @@ ghost use Rattle.look_many.specs.inner.Seats.{AreBack, IsAlone, IsBookFor, IsSee
 ghost use Rattle.look_many.specs.inner.Ends.{FoundBack, StoppedBack, task};
 
 use crate::finish::{Done, finish_all, gather};
-use crate::follow::follow_all;
+use crate::follow::{Log, follow_all};
 use crate::found::{Many, ManySetting};
 use crate::job::Job;
 use crate::opening::{next_pass, open_books, seat_all, stack_up};
@@ -32,9 +32,8 @@ use crate::serving::serve_on;
 use claim_book::Book;
 use contact_table::Table;
 use id_puzzles::Words;
-use kad_base::limits::RECEIVE_ROOM;
 use kad_base::{Link, List, NoMemory, Numbers, Serial};
-use lookup_crowd::{FollowUp, ManyFault, Progress, Seeker, all_legal, go_rounds};
+use lookup_crowd::{Driver, FollowUp, ManyFault, Progress, Seeker, Site, all_legal, go_rounds};
 use node_serve::{Lasting, ServeSetting, end_of};
 use path_worker::PacedCheck;
 use seal_tags::{Seal, SealCheck};
@@ -76,40 +75,34 @@ fn owe(
 
 /// Goes all rounds of the lookups, sends the follow-ups, and then serves on.
 fn go<R: Threads + Wait + Sync, L: Link, C: PacedCheck + Sync, G: Seal + SealCheck>(
-    rt: &R,
-    alloc: Global,
+    site: &Site<R, C, G>,
     link: &mut L,
-    desk: &Desk,
-    host: &mut ServeWorker,
+    driver: &mut Driver,
     seekers: &mut [Seeker],
-    progress: &mut Progress,
     words: &mut Words,
-    owners: &mut Vec<u64>,
-    said: &mut Vec<u64>,
+    log: &mut Log,
     jobs: &[Job],
-    check: &C,
-    seal: &G,
 ) -> Result<(), ManyFault>
-    requires setting { IsSetting desk.now.setting.now }
+    requires setting { IsSetting site.now.desk.setting.now }
     requires jobs { length jobs.now ≡ length seekers.old }
     requires carried { AllByRecursion MaySayOf jobs.now }
-    requires own { IsOfDesk desk.now host.old }
-    requires seated { AllByRecursion (IsSeated desk.now.turns.now.table) seekers.old }
-    requires begins { Begins (stand seekers.old progress.old words.old host.old (L.told link.old)) }
+    requires own { IsOfDesk site.now.desk driver.old.host }
+    requires seated { AllByRecursion (IsSeated site.now.desk.turns.now.table) seekers.old }
+    requires begins { Begins (stand seekers.old driver.old.progress words.old driver.old.host (L.told link.old)) }
     requires some_query { AllByRecursion (λ k. 1 ≤ k.lookup.book.setting.alpha) seekers.old }
-    requires none_owned { owners.old.items ≡ [] }
-    requires none_said { said.old.items ≡ [] }
-    requires moment { L.moment link.old ≡ progress.old.moment }
-    ensures same { SameHands host.old host.new }
+    requires none_owned { log.old.owners.items ≡ [] }
+    requires none_said { log.old.said.items ≡ [] }
+    requires moment { L.moment link.old ≡ driver.old.progress.moment }
+    ensures same { SameHands driver.old.host driver.new.host }
     ensures len { length seekers.new ≡ length seekers.old }
     ensures seats { SameSeats seekers.old seekers.new }
-    ensures went { OnOk result (WentWhole (G.accepted seal.now) (G.tag_of seal.now) desk.now.setting.now jobs.now
-        (stand seekers.old progress.old words.old host.old (L.told link.old))
-        (stand seekers.new progress.new words.new host.new (L.told link.new)) owners.new.items
-        said.new.items) }
-    ensures ends { IfErr result (λ fault. EndsWhole fault (G.accepted seal.now) (G.tag_of seal.now)
-        desk.now.setting.now jobs.now (stand seekers.old progress.old words.old host.old (L.told link.old))
-        words.new host.new (L.told link.new)) }
+    ensures went { OnOk result (WentWhole (G.accepted site.now.seal.now) (G.tag_of site.now.seal.now) site.now.desk.setting.now jobs.now
+        (stand seekers.old driver.old.progress words.old driver.old.host (L.told link.old))
+        (stand seekers.new driver.new.progress words.new driver.new.host (L.told link.new)) log.new.owners.items
+        log.new.said.items) }
+    ensures ends { IfErr result (λ fault. EndsWhole fault (G.accepted site.now.seal.now) (G.tag_of site.now.seal.now)
+        site.now.desk.setting.now jobs.now (stand seekers.old driver.old.progress words.old driver.old.host (L.told link.old))
+        words.new driver.new.host (L.told link.new)) }
     ensures link { IsErrOf result ManyFault.LinkFault
         → Rose (L.recv_faults link.old) (L.recv_faults link.new) }
     ensures last { IsErrOf result ManyFault.LinkFault
@@ -120,36 +113,35 @@ fn go<R: Threads + Wait + Sync, L: Link, C: PacedCheck + Sync, G: Seal + SealChe
         → L.recv_faults link.new ≡ L.recv_faults link.old }
     ensures kept { L.kept link.new ≡ L.kept link.old }
 {
-    let mut out = [0u8; 4096];
-    match go_rounds(
-        rt, alloc, link, desk, host, seekers, progress, words, owners, check, seal, &mut out,
-    ) {
+    match go_rounds(site, link, driver, seekers, words, &mut log.owners) {
         Ok(()) => {}
         Err(fault) => return Err(fault),
     }
     all_legal(seekers);
-    let _left = progress.left;
-    let plan = match owe(alloc, desk, jobs, seekers, progress) {
+    let _left = driver.progress.left;
+    let plan = match owe(site.alloc, &site.desk, jobs, seekers, &mut driver.progress) {
         Ok(plan) => plan,
         Err(NoMemory) => return Err(ManyFault::NoMemory),
     };
-    let mut buf = [0u8; RECEIVE_ROOM];
-    match follow_all(
-        rt, alloc, link, desk, host, seekers, progress, words, owners, said, seal, plan, &mut buf,
-        &mut out,
-    ) {
+    match follow_all(site, link, driver, seekers, words, log, plan) {
         Ok(()) => {}
         Err(fault) => return Err(fault),
     }
-    match serve_on(
-        rt, alloc, link, desk, host, seekers, progress, seal, &mut buf, &mut out,
-    ) {
+    match serve_on(site, link, driver, seekers) {
         Ok(()) => {
             all_legal(seekers);
             Ok(())
         }
         Err(fault) => Err(fault),
     }
+}
+
+/// What is wanted: the jobs, how each lookup goes, and how long the node goes on.
+#[derive(Clone, Copy)]
+struct Wanted<'a> {
+    jobs: &'a [Job],
+    setting: &'a ManySetting,
+    lasting: Lasting,
 }
 
 /// The room that the lookups need, taken before anything begins: their books, the last one's first; themselves; their passes,
@@ -221,25 +213,24 @@ fn only_pass<S: Serial>(turn: &Turn<S>, row: &mut Passes<S>) -> Pass<S>
 fn seat(
     alloc: Global,
     desk: &Desk,
-    setting: &ManySetting,
-    jobs: &[Job],
+    wanted: &Wanted,
     rows: &mut Rows,
     room: &mut Room,
 ) -> ServeWorker
-    requires books { AllZip (IsBookFor desk.now.setting.now setting.now desk.now.turns.now.table.start) jobs.now
+    requires books { AllZip (IsBookFor desk.now.setting.now wanted.now.setting.now desk.now.turns.now.table.start) wanted.now.jobs.now
         (reverse room.old.books.items) }
     requires no_seekers { room.old.seekers.items ≡ [] }
-    requires seeker_room { length jobs.now ≤ vec_capacity room.old.seekers }
+    requires seeker_room { length wanted.now.jobs.now ≤ vec_capacity room.old.seekers }
     requires no_stack { room.old.stack.items ≡ [] }
-    requires stack_room { length jobs.now + 1 ≤ vec_capacity room.old.stack }
-    requires fresh { AreFresh (length jobs.now + 1) 1 desk.now.turns.now rows.old }
+    requires stack_room { length wanted.now.jobs.now + 1 ≤ vec_capacity room.old.stack }
+    requires fresh { AreFresh (length wanted.now.jobs.now + 1) 1 desk.now.turns.now rows.old }
     ensures host { result ≡ new_host desk.now.turns.now }
-    ensures seekers { AllZip (IsSeekerFor desk.now.setting.now setting.now desk.now.turns.now.table.start) jobs.now
+    ensures seekers { AllZip (IsSeekerFor desk.now.setting.now wanted.now.setting.now desk.now.turns.now.table.start) wanted.now.jobs.now
         room.new.seekers.items }
     ensures passes { map (λ k. k.pass) room.new.seekers.items ≡ map (fresh desk.now.turns.now.table.id)
-        (range_with_len 1 (length jobs.now)) }
+        (range_with_len 1 (length wanted.now.jobs.now)) }
     ensures done { room.new.done ≡ room.old.done }
-    ensures empty { AreEmpty (length jobs.now + 1) 1 rows.new }
+    ensures empty { AreEmpty (length wanted.now.jobs.now + 1) 1 rows.new }
 {
     stack_up(&mut rows.table, &mut room.stack);
     let table_pass = next_pass(&mut room.stack);
@@ -248,12 +239,11 @@ fn seat(
     let host = ServeWorker::new(alloc, table_pass, peers_pass, items_pass);
     seat_all(
         alloc,
-        &desk.turns.table,
+        desk,
+        wanted.setting,
+        wanted.jobs,
         &mut room.stack,
         &mut room.books,
-        desk.setting,
-        setting,
-        jobs,
         &mut room.seekers,
     );
     host
@@ -289,40 +279,34 @@ fn put_back(
 
 /// Makes the lookups and the node that serves of the passes of three turns, goes on with them, and puts all passes back.
 fn work<R: Threads + Wait + Sync, L: Link, C: PacedCheck + Sync, G: Seal + SealCheck>(
-    rt: &R,
-    alloc: Global,
+    site: &Site<R, C, G>,
     link: &mut L,
     words: &mut Words,
-    desk: &Desk,
-    jobs: &[Job],
-    setting: &ManySetting,
-    lasting: Lasting,
-    check: &C,
-    seal: &G,
+    wanted: &Wanted,
     rows: &mut Rows,
     mut room: Room,
 ) -> Result<Many, ManyFault>
-    requires setting { IsSetting desk.now.setting.now }
-    requires few { length jobs.now ≤ max_lookups }
-    requires carried { AllByRecursion MaySayOf jobs.now }
-    requires limits { IsWithinLimits setting.now }
-    requires small { desk.now.setting.now.k < 256 }
+    requires setting { IsSetting site.now.desk.setting.now }
+    requires few { length wanted.now.jobs.now ≤ max_lookups }
+    requires carried { AllByRecursion MaySayOf wanted.now.jobs.now }
+    requires limits { IsWithinLimits wanted.now.setting.now }
+    requires small { site.now.desk.setting.now.k < 256 }
     requires place { words.old.place < 2 ^ 59 }
-    requires books { AllZip (IsBookFor desk.now.setting.now setting.now desk.now.turns.now.table.start) jobs.now
+    requires books { AllZip (IsBookFor site.now.desk.setting.now wanted.now.setting.now site.now.desk.turns.now.table.start) wanted.now.jobs.now
         (reverse room.books.items) }
     requires none_done { room.done.items ≡ [] }
-    requires done_room { length jobs.now ≤ vec_capacity room.done }
+    requires done_room { length wanted.now.jobs.now ≤ vec_capacity room.done }
     requires no_seekers { room.seekers.items ≡ [] }
-    requires seeker_room { length jobs.now ≤ vec_capacity room.seekers }
+    requires seeker_room { length wanted.now.jobs.now ≤ vec_capacity room.seekers }
     requires no_stack { room.stack.items ≡ [] }
-    requires stack_room { length jobs.now + 1 ≤ vec_capacity room.stack }
-    requires fresh { AreFresh (length jobs.now + 1) 1 desk.now.turns.now rows.old }
-    ensures all { HaveAll desk.now.turns.now rows.new }
-    ensures ok { IfOk result (FoundBack (task (G.accepted seal.now) (G.tag_of seal.now) desk.now.setting.now setting.now jobs.now lasting)
-        desk.now.turns.now rows.new
+    requires stack_room { length wanted.now.jobs.now + 1 ≤ vec_capacity room.stack }
+    requires fresh { AreFresh (length wanted.now.jobs.now + 1) 1 site.now.desk.turns.now rows.old }
+    ensures all { HaveAll site.now.desk.turns.now rows.new }
+    ensures ok { IfOk result (FoundBack (task (G.accepted site.now.seal.now) (G.tag_of site.now.seal.now) site.now.desk.setting.now wanted.now.setting.now wanted.now.jobs.now wanted.now.lasting)
+        site.now.desk.turns.now rows.new
         words.old words.new (L.told link.old) (L.told link.new)) }
-    ensures stopped { IfErr result (StoppedBack (task (G.accepted seal.now) (G.tag_of seal.now) desk.now.setting.now setting.now jobs.now lasting)
-        desk.now.turns.now rows.new
+    ensures stopped { IfErr result (StoppedBack (task (G.accepted site.now.seal.now) (G.tag_of site.now.seal.now) site.now.desk.setting.now wanted.now.setting.now wanted.now.jobs.now wanted.now.lasting)
+        site.now.desk.turns.now rows.new
         words.old words.new (L.told link.old) (L.told link.new)) }
     ensures link { IsErrOf result ManyFault.LinkFault
         → Rose (L.recv_faults link.old) (L.recv_faults link.new) }
@@ -334,46 +318,46 @@ fn work<R: Threads + Wait + Sync, L: Link, C: PacedCheck + Sync, G: Seal + SealC
         → L.recv_faults link.new ≡ L.recv_faults link.old }
     ensures kept { L.kept link.new ≡ L.kept link.old }
 {
-    let mut host = seat(alloc, desk, setting, jobs, rows, &mut room);
+    let host = seat(site.alloc, &site.desk, wanted, rows, &mut room);
     let began = link.now();
-    let mut progress = Progress {
+    let progress = Progress {
         moment: began,
         receives: 0,
         foreign: 0,
-        left: lasting.receives,
-        end: end_of(began, lasting.minutes),
+        left: wanted.lasting.receives,
+        end: end_of(began, wanted.lasting.minutes),
         received: 0,
         replied: 0,
         unsaid: 0,
     };
-    let mut owners = Vec::new(alloc);
-    let mut said = Vec::new(alloc);
+    let mut driver = Driver { host, progress };
+    let mut log = Log::new(site.alloc);
     let ended = go(
-        rt,
-        alloc,
+        site,
         link,
-        desk,
-        &mut host,
+        &mut driver,
         room.seekers.as_mut_slice(),
-        &mut progress,
         words,
-        &mut owners,
-        &mut said,
-        jobs,
-        check,
-        seal,
+        &mut log,
+        wanted.jobs,
     );
-    put_back(desk, host, room.seekers, rows, &mut room.done);
+    put_back(
+        &site.desk,
+        driver.host,
+        room.seekers,
+        rows,
+        &mut room.done,
+    );
     match ended {
         Ok(()) => {}
         Err(fault) => return Err(fault),
     }
-    match finish_all(alloc, room.done, said.as_slice()) {
+    match finish_all(site.alloc, room.done, log.said.as_slice()) {
         Ok(outcomes) => Ok(Many {
             outcomes,
-            owners: Numbers::from_vec(owners),
-            received: progress.received,
-            replied: progress.replied,
+            owners: Numbers::from_vec(log.owners),
+            received: driver.progress.received,
+            replied: driver.progress.replied,
         }),
         Err(NoMemory) => Err(ManyFault::NoMemory),
     }
@@ -436,12 +420,21 @@ pub fn look_many<R: Threads + Wait + Sync, L: Link, C: PacedCheck + Sync, G: Sea
         Ok(opened) => opened,
         Err(TurnNoMemory { state }) => return (state, Err(ManyFault::NoMemory)),
     };
-    let desk = Desk {
-        setting: server,
-        turns: &turns,
+    let site = Site {
+        rt,
+        alloc,
+        desk: Desk {
+            setting: server,
+            turns: &turns,
+        },
+        check,
+        seal,
     };
-    let answer = work(
-        rt, alloc, link, words, &desk, jobs, setting, lasting, check, seal, &mut rows, room,
-    );
+    let wanted = Wanted {
+        jobs,
+        setting,
+        lasting,
+    };
+    let answer = work(&site, link, words, &wanted, &mut rows, room);
     (turns.close(rows), answer)
 }

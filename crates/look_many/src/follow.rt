@@ -1,7 +1,6 @@
 //! What follows the lookups once all of them are over: queries to contacts that they found, of whose answers nothing is kept.
 ghost use Rattle.std.specs.Prelude.{◌≡◌, ◌≤◌, ◌<◌, ◌+◌, ◌-◌, ◌^◌, ◌++◌, ◌∷◌, [], cond, drop, length, replicate, reverse, take, false, IfOk, IfErr, OnErr, OnOk, IsErrOf};
 ghost use Rattle.std.specs.List.{AllByRecursion, AllZip};
-ghost use Rattle.kad_base.specs.Limits.{max_datagram};
 ghost use Rattle.kad_base.specs.Failing.{FailsLast};
 ghost use Rattle.kad_base.specs.Outside.{Grows, Rose};
 ghost use Rattle.kad_base.specs.Words.{word, word_bytes};
@@ -19,11 +18,30 @@ ghost use Rattle.look_many.specs.inner.Following.{CarriesOf, EndsSaying, Says};
 use id_puzzles::Words;
 use kad_base::{Addr, Link, List, NoMemory, Proof, put_bytes};
 use kad_krpc::{Ask, Message, encode};
-use lookup_crowd::{FollowUp, ManyFault, Progress, Seeker, all_legal, receive_until};
+use lookup_crowd::{Buffers, Driver, FollowUp, ManyFault, Progress, Seeker, Site, all_legal, receive_until};
 use seal_tags::{Seal, SealCheck};
-use serve_crew::{Desk, ServeWorker};
 use std::alloc::Global;
 use std::sync::Wait;
+
+/// Whose the queries are that went out, in order: those of all, refused ones too, and the follow-ups that were sent.
+#[derive(Drop)]
+pub(crate) struct Log {
+    pub owners: Vec<u64>,
+    pub said: Vec<u64>,
+}
+
+impl Log {
+    /// Of no query yet. Takes no memory.
+    pub(crate) fn new(alloc: Global) -> Log
+        ensures owners { result.owners.items ≡ [] }
+        ensures said { result.said.items ≡ [] }
+    {
+        Log {
+            owners: Vec::new(alloc),
+            said: Vec::new(alloc),
+        }
+    }
+}
 
 /// The query as a datagram whose transaction id is to be written yet, so that no word is drawn for a query for which there
 /// is no memory. The node answers others, so it isn't read-only (BEP 43), and brings the proof of its identifier, if it has one.
@@ -106,8 +124,7 @@ fn say<L: Link>(
     link: &mut L,
     progress: &mut Progress,
     words: &mut Words,
-    owners: &mut Vec<u64>,
-    said: &mut Vec<u64>,
+    log: &mut Log,
     proof: Option<Proof>,
     follow: FollowUp,
 ) -> Result<bool, NoMemory>
@@ -117,9 +134,9 @@ fn say<L: Link>(
     ensures ok { IfOk result (λ was_sent. Grows (L.told link.old) (L.told link.new)
         (λ es. es ≡ tried was_sent follow.to (follow_bytes proof (word words.old.seed words.old.place) follow.ask) ∷ [])) }
     ensures drawn { OnOk result (words.new ≡ record words.old { place = words.old.place + 1 }) }
-    ensures owners { OnOk result (owners.new.items ≡ owners.old.items ++ follow.owner ∷ []) }
-    ensures said { IfOk result (λ was_sent. said.new.items
-        ≡ said.old.items ++ cond was_sent (follow.owner ∷ []) []) }
+    ensures owners { OnOk result (log.new.owners.items ≡ log.old.owners.items ++ follow.owner ∷ []) }
+    ensures said { IfOk result (λ was_sent. log.new.said.items
+        ≡ log.old.said.items ++ cond was_sent (follow.owner ∷ []) []) }
     ensures progress { OnOk result (progress.new
         ≡ record progress.old { receives = 1; unsaid = progress.old.unsaid - 1 }) }
     ensures same_words { OnErr result (words.new ≡ words.old) }
@@ -129,22 +146,22 @@ fn say<L: Link>(
     ensures send_faults { L.send_faults link.old ≤ L.send_faults link.new }
     ensures kept { L.kept link.new ≡ L.kept link.old }
 {
-    if owners.reserve(1).is_err() {
+    if log.owners.reserve(1).is_err() {
         return Err(NoMemory);
     }
-    if said.reserve(1).is_err() {
+    if log.said.reserve(1).is_err() {
         return Err(NoMemory);
     }
     let FollowUp { owner, to, ask } = follow;
     match send_one(alloc, link, words, to, proof, ask) {
         Ok(true) => {
-            owners.push_reserved(owner);
-            said.push_reserved(owner);
+            log.owners.push_reserved(owner);
+            log.said.push_reserved(owner);
             begin_round(progress);
             Ok(true)
         }
         Ok(false) => {
-            owners.push_reserved(owner);
+            log.owners.push_reserved(owner);
             begin_round(progress);
             Ok(false)
         }
@@ -163,42 +180,34 @@ fn last_first(plan: List<FollowUp>) -> Vec<FollowUp>
 
 /// Sends all follow-ups in order, where all lookups are over, and makes one receive call behind each, which waits for nothing:
 /// what came is answered.
-pub(crate) fn follow_all<R: Wait, L: Link, G: Seal + SealCheck>(
-    rt: &R,
-    alloc: Global,
+pub(crate) fn follow_all<R: Wait, L: Link, C, G: Seal + SealCheck>(
+    site: &Site<R, C, G>,
     link: &mut L,
-    desk: &Desk,
-    host: &mut ServeWorker,
+    driver: &mut Driver,
     seekers: &mut [Seeker],
-    progress: &mut Progress,
     words: &mut Words,
-    owners: &mut Vec<u64>,
-    said: &mut Vec<u64>,
-    seal: &G,
+    log: &mut Log,
     plan: List<FollowUp>,
-    buf: &mut [u8],
-    out: &mut [u8; 4096],
 ) -> Result<(), ManyFault>
-    requires setting { IsSetting desk.now.setting.now }
-    requires own { IsOfDesk desk.now host.old }
-    requires may { MayServe seekers.old progress.old }
-    requires unsaid { progress.old.unsaid ≡ length plan }
+    requires setting { IsSetting site.now.desk.setting.now }
+    requires own { IsOfDesk site.now.desk driver.old.host }
+    requires may { MayServe seekers.old driver.old.progress }
+    requires unsaid { driver.old.progress.unsaid ≡ length plan }
     requires carried { AllByRecursion CarriesOf plan }
     requires place { words.old.place + length plan ≤ 2 ^ 60 }
-    requires room { length buf.old ≡ max_datagram + 1 }
-    requires moment { L.moment link.old ≡ progress.old.moment }
-    ensures same { SameHands host.old host.new }
+    requires moment { L.moment link.old ≡ driver.old.progress.moment }
+    ensures same { SameHands driver.old.host driver.new.host }
     ensures len { length seekers.new ≡ length seekers.old }
     ensures seats { AllZip SameSeat seekers.old seekers.new }
-    ensures says { OnOk result (Says plan (G.accepted seal.now) (G.tag_of seal.now) desk.now.setting.now
-        (stand seekers.old progress.old words.old host.old (L.told link.old))
-        (stand seekers.new progress.new words.new host.new (L.told link.new))
-        owners.old.items owners.new.items said.old.items said.new.items) }
-    ensures unsaid { OnOk result (progress.new.unsaid ≡ 0) }
-    ensures moment { OnOk result (L.moment link.new ≡ progress.new.moment) }
+    ensures says { OnOk result (Says plan (G.accepted site.now.seal.now) (G.tag_of site.now.seal.now) site.now.desk.setting.now
+        (stand seekers.old driver.old.progress words.old driver.old.host (L.told link.old))
+        (stand seekers.new driver.new.progress words.new driver.new.host (L.told link.new))
+        log.old.owners.items log.new.owners.items log.old.said.items log.new.said.items) }
+    ensures unsaid { OnOk result (driver.new.progress.unsaid ≡ 0) }
+    ensures moment { OnOk result (L.moment link.new ≡ driver.new.progress.moment) }
     ensures stops { IfErr result (λ fault. EndsSaying fault plan
-        (G.accepted seal.now) (G.tag_of seal.now) desk.now.setting.now
-        (stand seekers.old progress.old words.old host.old (L.told link.old)) words.new host.new
+        (G.accepted site.now.seal.now) (G.tag_of site.now.seal.now) site.now.desk.setting.now
+        (stand seekers.old driver.old.progress words.old driver.old.host (L.told link.old)) words.new driver.new.host
         (L.told link.new)) }
     ensures strays { ¬ IsErrOf result ManyFault.Strays }
     ensures link { IsErrOf result ManyFault.LinkFault
@@ -211,26 +220,24 @@ pub(crate) fn follow_all<R: Wait, L: Link, G: Seal + SealCheck>(
         → L.recv_faults link.new ≡ L.recv_faults link.old }
     ensures kept { L.kept link.new ≡ L.kept link.old }
 {
+    let mut buffers = Buffers::new();
     let mut left = last_first(plan);
     'following: while let Some(follow) = left.pop() {
         all_legal(seekers);
         match say(
-            alloc,
+            site.alloc,
             link,
-            progress,
+            &mut driver.progress,
             words,
-            owners,
-            said,
-            desk.setting.proof,
+            log,
+            site.desk.setting.proof,
             follow,
         ) {
             Ok(_) => {}
             Err(NoMemory) => return Err(ManyFault::NoMemory),
         }
-        let until = progress.moment;
-        match receive_until(
-            rt, alloc, link, desk, host, seekers, progress, seal, false, until, buf, out,
-        ) {
+        let until = driver.progress.moment;
+        match receive_until(site, link, driver, seekers, false, until, &mut buffers) {
             Ok(()) => {}
             Err(fault) => return Err(fault),
         }

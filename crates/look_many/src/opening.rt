@@ -15,9 +15,10 @@ use kad_base::{Contacts, Family, NoMemory, Serial};
 use lookup_core::{Lookup, Quest, nothing};
 use lookup_crowd::Seeker;
 use node_serve::ServeSetting;
+use serve_crew::Desk;
 use std::alloc::Global;
 use std::hash::RandomState;
-use turn_book::{Pass, Passes, Turn};
+use turn_book::{Pass, Passes};
 
 /// The role in which the driver calls.
 pub(crate) const DRIVER: u8 = 0;
@@ -160,33 +161,31 @@ pub(crate) fn next_pass(stack: &mut Vec<Pass<Table>>) -> Pass<Table>
 /// Makes a lookup for each job, of the next book and the next pass. The books' list keeps its room.
 pub(crate) fn seat_all(
     alloc: Global,
-    tables: &Turn<Table>,
-    stack: &mut Vec<Pass<Table>>,
-    books: &mut Vec<Book>,
-    server: &ServeSetting,
+    desk: &Desk,
     setting: &ManySetting,
     jobs: &[Job],
+    stack: &mut Vec<Pass<Table>>,
+    books: &mut Vec<Book>,
     seekers: &mut Vec<Seeker>,
 )
-    requires books { AllZip (IsBookFor server.now setting.now tables.now.start) jobs.now
+    requires books { AllZip (IsBookFor desk.now.setting.now setting.now desk.now.turns.now.table.start) jobs.now
         (reverse books.old.items) }
-    requires passes { reverse stack.old.items ≡ map (fresh tables.now.id)
+    requires passes { reverse stack.old.items ≡ map (fresh desk.now.turns.now.table.id)
         (range_with_len 1 (length jobs.now)) }
     requires empty { seekers.old.items ≡ [] }
     requires room { length jobs.now ≤ vec_capacity seekers.old }
-    ensures seekers { AllZip (IsSeekerFor server.now setting.now tables.now.start) jobs.now
+    ensures seekers { AllZip (IsSeekerFor desk.now.setting.now setting.now desk.now.turns.now.table.start) jobs.now
         seekers.new.items }
-    ensures passes { map (λ k. k.pass) seekers.new.items ≡ map (fresh tables.now.id)
+    ensures passes { map (λ k. k.pass) seekers.new.items ≡ map (fresh desk.now.turns.now.table.id)
         (range_with_len 1 (length jobs.now)) }
     ensures books { books.new.items ≡ [] }
     ensures room { vec_capacity books.new ≡ vec_capacity books.old }
 {
-    let _ = tables;
     for i in 0..jobs.len() {
         let book = next_book(books);
         let pass = next_pass(stack);
         seekers.push_reserved(Seeker {
-            quest: quest_of(server, setting, &jobs[i]),
+            quest: quest_of(desk.setting, setting, &jobs[i]),
             lookup: Lookup::new(book),
             gathered: nothing(alloc),
             pass,

@@ -1,7 +1,6 @@
 //! Serving on, where all lookups are over.
 ghost use Rattle.std.specs.Prelude.{◌≡◌, ◌≤◌, ◌<◌, ◌+◌, ◌-◌, [], length, map, false, OnOk, IfErr, IsErrOf, true};
 ghost use Rattle.std.specs.List.{AllZip};
-ghost use Rattle.kad_base.specs.Limits.{max_datagram};
 ghost use Rattle.kad_base.specs.Failing.{FailsLast};
 ghost use Rattle.kad_base.specs.Outside.{Rose};
 ghost use Rattle.id_puzzles.specs.Drawn.{WordsState};
@@ -12,11 +11,9 @@ ghost use Rattle.lookup_crowd.specs.inner.ManySteps.{IsOfDesk, EndsEarly};
 ghost use Rattle.look_many.specs.inner.Serving.{MayServe, HasEnough, WantsMore};
 
 use kad_base::Link;
-use lookup_crowd::{ManyFault, Progress, Seeker, all_legal, receive_until};
+use lookup_crowd::{Buffers, Driver, ManyFault, Progress, Seeker, Site, all_legal, receive_until};
 use node_serve::{is_over, waits_to};
 use seal_tags::{Seal, SealCheck};
-use serve_crew::{Desk, ServeWorker};
-use std::alloc::Global;
 use std::sync::Wait;
 
 /// Whether serving on is over: as many receives were made as are wanted, or the moment told last is at or past the end.
@@ -32,40 +29,33 @@ fn has_enough(progress: &Progress) -> bool
 
 /// Serves on where all lookups are over, until as many receives were made as are wanted, or the end has come: each of them waits
 /// a minute, or to the end, and what came is answered. However many datagrams come, that is no fault.
-pub(crate) fn serve_on<R: Wait, L: Link, G: Seal + SealCheck>(
-    rt: &R,
-    alloc: Global,
+pub(crate) fn serve_on<R: Wait, L: Link, C, G: Seal + SealCheck>(
+    site: &Site<R, C, G>,
     link: &mut L,
-    desk: &Desk,
-    host: &mut ServeWorker,
+    driver: &mut Driver,
     seekers: &mut [Seeker],
-    progress: &mut Progress,
-    seal: &G,
-    buf: &mut [u8],
-    out: &mut [u8; 4096],
 ) -> Result<(), ManyFault>
-    requires setting { IsSetting desk.now.setting.now }
-    requires own { IsOfDesk desk.now host.old }
-    requires may { MayServe seekers.old progress.old }
-    requires said { progress.old.unsaid ≡ 0 }
-    requires room { length buf.old ≡ max_datagram + 1 }
-    requires moment { L.moment link.old ≡ progress.old.moment }
-    ensures same { SameHands host.old host.new }
+    requires setting { IsSetting site.now.desk.setting.now }
+    requires own { IsOfDesk site.now.desk driver.old.host }
+    requires may { MayServe seekers.old driver.old.progress }
+    requires said { driver.old.progress.unsaid ≡ 0 }
+    requires moment { L.moment link.old ≡ driver.old.progress.moment }
+    ensures same { SameHands driver.old.host driver.new.host }
     ensures len { length seekers.new ≡ length seekers.old }
     ensures seats { AllZip SameSeat seekers.old seekers.new }
-    ensures goes { OnOk result ((words : WordsState) → Advances false [] (G.accepted seal.now)
-        (G.tag_of seal.now) desk.now.setting.now
-        (stand seekers.old progress.old words host.old (L.told link.old))
-        (stand seekers.new progress.new words host.new (L.told link.new))) }
-    ensures may { OnOk result (MayServe seekers.new progress.new) }
-    ensures said { OnOk result (progress.new.unsaid ≡ 0) }
+    ensures goes { OnOk result ((words : WordsState) → Advances false [] (G.accepted site.now.seal.now)
+        (G.tag_of site.now.seal.now) site.now.desk.setting.now
+        (stand seekers.old driver.old.progress words driver.old.host (L.told link.old))
+        (stand seekers.new driver.new.progress words driver.new.host (L.told link.new))) }
+    ensures may { OnOk result (MayServe seekers.new driver.new.progress) }
+    ensures said { OnOk result (driver.new.progress.unsaid ≡ 0) }
     ensures journals { OnOk result (map whose seekers.new ≡ map whose seekers.old) }
     ensures gathered { OnOk result (map (λ k. k.gathered) seekers.new ≡ map (λ k. k.gathered) seekers.old) }
-    ensures over { OnOk result (HasEnough progress.new) }
-    ensures moment { OnOk result (L.moment link.new ≡ progress.new.moment) }
+    ensures over { OnOk result (HasEnough driver.new.progress) }
+    ensures moment { OnOk result (L.moment link.new ≡ driver.new.progress.moment) }
     ensures stops { IfErr result (λ fault. (words : WordsState) → EndsEarly false fault
-        (G.accepted seal.now) (G.tag_of seal.now) desk.now.setting.now
-        (stand seekers.old progress.old words host.old (L.told link.old)) host.new (L.told link.new)) }
+        (G.accepted site.now.seal.now) (G.tag_of site.now.seal.now) site.now.desk.setting.now
+        (stand seekers.old driver.old.progress words driver.old.host (L.told link.old)) driver.new.host (L.told link.new)) }
     ensures strays { ¬ IsErrOf result ManyFault.Strays }
     ensures link { IsErrOf result ManyFault.LinkFault
         → Rose (L.recv_faults link.old) (L.recv_faults link.new) }
@@ -77,12 +67,11 @@ pub(crate) fn serve_on<R: Wait, L: Link, G: Seal + SealCheck>(
         → L.recv_faults link.new ≡ L.recv_faults link.old }
     ensures kept { L.kept link.new ≡ L.kept link.old }
 {
-    'serving: while !has_enough(progress) {
+    let mut buffers = Buffers::new();
+    'serving: while !has_enough(&driver.progress) {
         all_legal(seekers);
-        let until = waits_to(progress.end, progress.moment);
-        match receive_until(
-            rt, alloc, link, desk, host, seekers, progress, seal, false, until, buf, out,
-        ) {
+        let until = waits_to(driver.progress.end, driver.progress.moment);
+        match receive_until(site, link, driver, seekers, false, until, &mut buffers) {
             Ok(()) => {}
             Err(fault) => return Err(fault),
         }

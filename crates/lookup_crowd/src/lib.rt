@@ -11,6 +11,7 @@ mod round;
 mod rounds;
 mod seeker;
 mod settle;
+mod site;
 mod take;
 mod wait;
 
@@ -18,4 +19,5 @@ pub use due::FollowUp;
 pub use legal::all_legal;
 pub use receive::receive_until;
 pub use rounds::go_rounds;
-pub use seeker::{ManyFault, Progress, Seeker};
+pub use seeker::{Driver, ManyFault, Progress, Seeker};
+pub use site::{Buffers, Site};

@@ -1,7 +1,7 @@
 //! One receive call for all lookups, and what it gave.
 ghost use Rattle.std.specs.Prelude.{◌≡◌, ◌≤◌, ◌<◌, ◌+◌, ◌^◌, [], length, true, IfOk, IfErr, IfSome, OnOk, OnErr, IsErrOf};
 ghost use Rattle.std.specs.List.{AllByRecursion, AllZip};
-ghost use Rattle.kad_base.specs.Limits.{max_datagram, max_round_receives, max_strays};
+ghost use Rattle.kad_base.specs.Limits.{max_round_receives, max_strays};
 ghost use Rattle.kad_base.specs.Failing.{FailsLast};
 ghost use Rattle.kad_base.specs.Outside.{Grows, Rose};
 ghost use Rattle.id_puzzles.specs.Drawn.{WordsState};
@@ -11,14 +11,14 @@ ghost use Rattle.lookup_crowd.specs.inner.Crowd.{Holding, SameSeat, Advances, st
 ghost use Rattle.lookup_crowd.specs.inner.ManySteps.{owed_in, IsOfDesk, Counts, Handles, Comes, Passes, Pays, after_paid, IsLastForeign, MayReceive, Received, Stops, EndsByForeign, RanOn};
 
 use crate::host::{answer, expire_all};
-use crate::seeker::{ManyFault, Progress, Seeker};
+use crate::seeker::{Driver, ManyFault, Progress, Seeker};
+use crate::site::{Buffers, Site};
 use crate::take::take;
 use crate::wait::round_after;
 use kad_base::limits::MAX_STRAYS;
 use kad_base::{Addr, Came, Link, NoMemory};
 use seal_tags::{Seal, SealCheck};
-use serve_crew::{Datagram, Desk, ServeWorker};
-use std::alloc::Global;
+use serve_crew::Datagram;
 use std::sync::Wait;
 
 /// Counts a foreign datagram. While a query is open, the last that is taken is a fault.
@@ -39,116 +39,123 @@ fn count_foreign(progress: &mut Progress, busy: bool) -> Result<(), ManyFault>
 
 /// Hands the datagram to the first lookup that it is for. What is for none is counted and answered: how many bytes its
 /// reply has in front of `out`, where it is owed one.
-fn handle<R: Wait, G: Seal + SealCheck>(
-    rt: &R,
-    alloc: Global,
-    desk: &Desk,
-    host: &mut ServeWorker,
+fn handle<R: Wait, C, G: Seal + SealCheck>(
+    site: &Site<R, C, G>,
+    driver: &mut Driver,
     seekers: &mut [Seeker],
-    progress: &mut Progress,
-    seal: &G,
     busy: bool,
     datagram: &Datagram,
     out: &mut [u8; 4096],
 ) -> Result<Option<usize>, ManyFault>
-    requires setting { IsSetting desk.now.setting.now }
-    requires own { IsOfDesk desk.now host.old }
+    requires setting { IsSetting site.now.desk.setting.now }
+    requires own { IsOfDesk site.now.desk driver.old.host }
     requires holds { AllByRecursion Holding seekers.old }
-    requires few { busy ≡ true → progress.old.foreign < max_strays }
-    requires room { progress.old.foreign + 1 < 2 ^ 64 }
-    ensures same { SameHands host.old host.new }
+    requires few { busy ≡ true → driver.old.progress.foreign < max_strays }
+    requires room { driver.old.progress.foreign + 1 < 2 ^ 64 }
+    ensures same { SameHands driver.old.host driver.new.host }
     ensures len { length seekers.new ≡ length seekers.old }
     ensures seats { AllZip SameSeat seekers.old seekers.new }
-    ensures ok { IfOk result (λ reply. Handles (G.accepted seal.now) (G.tag_of seal.now)
-        desk.now.setting.now busy datagram.now.from datagram.now.bytes.now datagram.now.at seekers.old seekers.new progress.old progress.new host.old
-        host.new (owed_in reply datagram.now.from out.new)) }
+    ensures ok { IfOk result (λ reply. Handles (G.accepted site.now.seal.now) (G.tag_of site.now.seal.now)
+        site.now.desk.setting.now busy datagram.now.from datagram.now.bytes.now datagram.now.at seekers.old seekers.new driver.old.progress driver.new.progress driver.old.host
+        driver.new.host (owed_in reply datagram.now.from out.new)) }
     ensures short { IfOk result (λ reply. IfSome reply (λ n. n ≤ 4096)) }
-    ensures received { OnOk result (progress.new.received ≡ progress.old.received) }
+    ensures received { OnOk result (driver.new.progress.received ≡ driver.old.progress.received) }
     ensures strays { IsErrOf result ManyFault.Strays
-        → IsLastForeign (G.accepted seal.now) datagram.now.from datagram.now.bytes.now busy seekers.old progress.old }
+        → IsLastForeign (G.accepted site.now.seal.now) datagram.now.from datagram.now.bytes.now busy seekers.old driver.old.progress }
     ensures link { ¬ IsErrOf result ManyFault.LinkFault }
-    ensures ran_on { OnErr result (RanOn host.old host.new) }
+    ensures ran_on { OnErr result (RanOn driver.old.host driver.new.host) }
 {
-    match take(alloc, seekers, seal, datagram.from, datagram.bytes) {
+    match take(
+        site.alloc,
+        seekers,
+        site.seal,
+        datagram.from,
+        datagram.bytes,
+    ) {
         Ok(true) => return Ok(None),
         Ok(false) => {}
         Err(NoMemory) => return Err(ManyFault::NoMemory),
     }
-    match count_foreign(progress, busy) {
+    match count_foreign(&mut driver.progress, busy) {
         Ok(()) => {}
         Err(fault) => return Err(fault),
     }
-    match answer(rt, desk, host, seal, datagram, out) {
+    match answer(
+        site.rt,
+        &site.desk,
+        &mut driver.host,
+        site.seal,
+        datagram,
+        out,
+    ) {
         Ok(reply) => Ok(reply),
         Err(NoMemory) => Err(ManyFault::NoMemory),
     }
 }
 
 /// A datagram came at that moment, told with it: it is handled, and then all lookups lose who is overdue.
-fn came<R: Wait, G: Seal + SealCheck>(
-    rt: &R,
-    alloc: Global,
-    desk: &Desk,
-    host: &mut ServeWorker,
+fn came<R: Wait, C, G: Seal + SealCheck>(
+    site: &Site<R, C, G>,
+    driver: &mut Driver,
     seekers: &mut [Seeker],
-    progress: &mut Progress,
-    seal: &G,
     busy: bool,
     datagram: &Datagram,
     out: &mut [u8; 4096],
 ) -> Result<Option<usize>, ManyFault>
-    requires setting { IsSetting desk.now.setting.now }
-    requires own { IsOfDesk desk.now host.old }
+    requires setting { IsSetting site.now.desk.setting.now }
+    requires own { IsOfDesk site.now.desk driver.old.host }
     requires holds { AllByRecursion Holding seekers.old }
-    requires few { busy ≡ true → progress.old.foreign < max_strays }
-    requires room { progress.old.foreign + 1 < 2 ^ 64 }
-    requires few_receives { progress.old.receives < max_round_receives }
-    requires few_received { progress.old.received + 1 < 2 ^ 64 }
-    ensures same { SameHands host.old host.new }
+    requires few { busy ≡ true → driver.old.progress.foreign < max_strays }
+    requires room { driver.old.progress.foreign + 1 < 2 ^ 64 }
+    requires few_receives { driver.old.progress.receives < max_round_receives }
+    requires few_received { driver.old.progress.received + 1 < 2 ^ 64 }
+    ensures same { SameHands driver.old.host driver.new.host }
     ensures len { length seekers.new ≡ length seekers.old }
     ensures seats { AllZip SameSeat seekers.old seekers.new }
-    ensures ok { IfOk result (λ reply. Comes (G.accepted seal.now) (G.tag_of seal.now)
-        desk.now.setting.now busy datagram.now.from datagram.now.bytes.now datagram.now.at seekers.old seekers.new progress.old progress.new host.old
-        host.new (owed_in reply datagram.now.from out.new)) }
+    ensures ok { IfOk result (λ reply. Comes (G.accepted site.now.seal.now) (G.tag_of site.now.seal.now)
+        site.now.desk.setting.now busy datagram.now.from datagram.now.bytes.now datagram.now.at seekers.old seekers.new driver.old.progress driver.new.progress driver.old.host
+        driver.new.host (owed_in reply datagram.now.from out.new)) }
     ensures short { IfOk result (λ reply. IfSome reply (λ n. n ≤ 4096)) }
     ensures strays { IsErrOf result ManyFault.Strays
-        → IsLastForeign (G.accepted seal.now) datagram.now.from datagram.now.bytes.now busy seekers.old progress.old }
+        → IsLastForeign (G.accepted site.now.seal.now) datagram.now.from datagram.now.bytes.now busy seekers.old driver.old.progress }
     ensures link { ¬ IsErrOf result ManyFault.LinkFault }
-    ensures ran_on { OnErr result (RanOn host.old host.new) }
+    ensures ran_on { OnErr result (RanOn driver.old.host driver.new.host) }
 {
-    let reply = match handle(
-        rt, alloc, desk, host, seekers, progress, seal, busy, datagram, out,
-    ) {
+    let reply = match handle(site, driver, seekers, busy, datagram, out) {
         Ok(reply) => reply,
         Err(fault) => return Err(fault),
     };
-    expire_all(rt, desk, host, seekers, datagram.at);
-    progress.moment = datagram.at;
-    progress.receives = round_after(progress.receives, seekers);
-    progress.left = progress.left.saturating_sub(1);
-    progress.received += 1;
+    expire_all(
+        site.rt,
+        &site.desk,
+        &mut driver.host,
+        seekers,
+        datagram.at,
+    );
+    driver.progress.moment = datagram.at;
+    driver.progress.receives = round_after(driver.progress.receives, seekers);
+    driver.progress.left = driver.progress.left.saturating_sub(1);
+    driver.progress.received += 1;
     Ok(reply)
 }
 
 /// No datagram came until that moment: all lookups lose who is overdue, and the round is over.
-fn none_came<R: Wait>(
-    rt: &R,
-    desk: &Desk,
-    host: &mut ServeWorker,
+fn none_came<R: Wait, C, G>(
+    site: &Site<R, C, G>,
+    driver: &mut Driver,
     seekers: &mut [Seeker],
-    progress: &mut Progress,
     at: u64,
 )
-    requires own { IsOfDesk desk.now host.old }
+    requires own { IsOfDesk site.now.desk driver.old.host }
     requires holds { AllByRecursion Holding seekers.old }
-    ensures same { SameHands host.old host.new }
+    ensures same { SameHands driver.old.host driver.new.host }
     ensures len { length seekers.new ≡ length seekers.old }
-    ensures passes { Passes at seekers.old seekers.new progress.old progress.new host.old host.new }
+    ensures passes { Passes at seekers.old seekers.new driver.old.progress driver.new.progress driver.old.host driver.new.host }
 {
-    expire_all(rt, desk, host, seekers, at);
-    progress.moment = at;
-    progress.receives = 0;
-    progress.left = progress.left.saturating_sub(1);
+    expire_all(site.rt, &site.desk, &mut driver.host, seekers, at);
+    driver.progress.moment = at;
+    driver.progress.receives = 0;
+    driver.progress.left = driver.progress.left.saturating_sub(1);
 }
 
 /// Sends the reply that a datagram is owed, if it is owed one: its first bytes of `out`. Whether it was sent.
@@ -183,42 +190,36 @@ fn count_reply(progress: &mut Progress, was_sent: bool)
 /// Makes one receive call for all lookups, until that moment, and handles what it gave; `busy` says whether a query of a
 /// lookup is open. A reply that a datagram is owed is sent at once. Whatever the events told of each lookup's journal they
 /// go on to tell.
-pub fn receive_until<R: Wait, L: Link, G: Seal + SealCheck>(
-    rt: &R,
-    alloc: Global,
+pub fn receive_until<R: Wait, L: Link, C, G: Seal + SealCheck>(
+    site: &Site<R, C, G>,
     link: &mut L,
-    desk: &Desk,
-    host: &mut ServeWorker,
+    driver: &mut Driver,
     seekers: &mut [Seeker],
-    progress: &mut Progress,
-    seal: &G,
     busy: bool,
     until: u64,
-    buf: &mut [u8],
-    out: &mut [u8; 4096],
+    buffers: &mut Buffers,
 ) -> Result<(), ManyFault>
-    requires setting { IsSetting desk.now.setting.now }
-    requires own { IsOfDesk desk.now host.old }
-    requires may { MayReceive seekers.old progress.old until busy }
-    requires room { length buf.old ≡ max_datagram + 1 }
-    requires moment { L.moment link.old ≡ progress.old.moment }
-    ensures same { SameHands host.old host.new }
+    requires setting { IsSetting site.now.desk.setting.now }
+    requires own { IsOfDesk site.now.desk driver.old.host }
+    requires may { MayReceive seekers.old driver.old.progress until busy }
+    requires moment { L.moment link.old ≡ driver.old.progress.moment }
+    ensures same { SameHands driver.old.host driver.new.host }
     ensures len { length seekers.new ≡ length seekers.old }
     ensures seats { AllZip SameSeat seekers.old seekers.new }
-    ensures goes { OnOk result ((words : WordsState) → Advances busy [] (G.accepted seal.now)
-        (G.tag_of seal.now) desk.now.setting.now
-        (stand seekers.old progress.old words host.old (L.told link.old))
-        (stand seekers.new progress.new words host.new (L.told link.new))) }
-    ensures received { OnOk result (Received busy seekers.old seekers.new progress.old progress.new) }
-    ensures later { OnOk result (progress.old.moment ≤ progress.new.moment) }
-    ensures moment { OnOk result (L.moment link.new ≡ progress.new.moment) }
+    ensures goes { OnOk result ((words : WordsState) → Advances busy [] (G.accepted site.now.seal.now)
+        (G.tag_of site.now.seal.now) site.now.desk.setting.now
+        (stand seekers.old driver.old.progress words driver.old.host (L.told link.old))
+        (stand seekers.new driver.new.progress words driver.new.host (L.told link.new))) }
+    ensures received { OnOk result (Received busy seekers.old seekers.new driver.old.progress driver.new.progress) }
+    ensures later { OnOk result (driver.old.progress.moment ≤ driver.new.progress.moment) }
+    ensures moment { OnOk result (L.moment link.new ≡ driver.new.progress.moment) }
     ensures stops { IfErr result (λ fault. (words : WordsState) → Stops busy fault
-        (G.accepted seal.now) (G.tag_of seal.now) desk.now.setting.now
-        (stand seekers.old progress.old words host.old (L.told link.old)) (L.told link.new)) }
-    ensures ran_on { OnErr result (RanOn host.old host.new) }
+        (G.accepted site.now.seal.now) (G.tag_of site.now.seal.now) site.now.desk.setting.now
+        (stand seekers.old driver.old.progress words driver.old.host (L.told link.old)) (L.told link.new)) }
+    ensures ran_on { OnErr result (RanOn driver.old.host driver.new.host) }
     ensures strays { IsErrOf result ManyFault.Strays → (words : WordsState)
-        → EndsByForeign busy (G.accepted seal.now) (G.tag_of seal.now) desk.now.setting.now
-        (stand seekers.old progress.old words host.old (L.told link.old)) (L.told link.new) }
+        → EndsByForeign busy (G.accepted site.now.seal.now) (G.tag_of site.now.seal.now) site.now.desk.setting.now
+        (stand seekers.old driver.old.progress words driver.old.host (L.told link.old)) (L.told link.new) }
     ensures busy { IsErrOf result ManyFault.Strays → busy ≡ true }
     ensures link { IsErrOf result ManyFault.LinkFault
         → Rose (L.recv_faults link.old) (L.recv_faults link.new) }
@@ -230,26 +231,24 @@ pub fn receive_until<R: Wait, L: Link, G: Seal + SealCheck>(
         → L.recv_faults link.new ≡ L.recv_faults link.old }
     ensures kept { L.kept link.new ≡ L.kept link.old }
 {
-    match link.recv(buf, until) {
+    match link.recv(&mut buffers.room, until) {
         Ok(Came::Packet { from, len, at }) => {
             let datagram = Datagram {
                 from,
-                bytes: &buf[..len],
+                bytes: &buffers.room[..len],
                 at,
             };
-            match came(
-                rt, alloc, desk, host, seekers, progress, seal, busy, &datagram, out,
-            ) {
+            match came(site, driver, seekers, busy, &datagram, &mut buffers.out) {
                 Ok(reply) => {
-                    let was_sent = pay(link, from, reply, out);
-                    count_reply(progress, was_sent);
+                    let was_sent = pay(link, from, reply, &buffers.out);
+                    count_reply(&mut driver.progress, was_sent);
                     Ok(())
                 }
                 Err(fault) => Err(fault),
             }
         }
         Ok(Came::Quiet { at }) => {
-            none_came(rt, desk, host, seekers, progress, at);
+            none_came(site, driver, seekers, at);
             Ok(())
         }
         Err(_) => Err(ManyFault::LinkFault),

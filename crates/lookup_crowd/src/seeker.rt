@@ -2,6 +2,7 @@
 use contact_table::Table;
 use kad_base::NoMemory;
 use lookup_core::{Gathered, Lookup, Quest};
+use serve_crew::ServeWorker;
 use thiserror::Error;
 use turn_book::Pass;
 
@@ -43,4 +44,12 @@ pub struct Progress {
     pub received: u64,
     pub replied: u64,
     pub unsaid: u64,
+}
+
+/// Who drives the lookups: the worker by which the node answers meanwhile and tells the table whom they lost, and where its
+/// link stands.
+#[derive(Drop)]
+pub struct Driver {
+    pub host: ServeWorker,
+    pub progress: Progress,
 }

@@ -31,12 +31,12 @@ pub returns-clause-host : goal.returns-clause-host
 returns-clause-host c =
     let T = c.args.desk.now.turns.now.table in
     let P = c.args.desk.now.turns.now.peers in
-    let n = length c.args.jobs.now in
+    let n = length c.args.wanted.now.jobs.now in
     let first = row_next (fresh T.id) (reverse c.next_pass-table_pass.new.stack.items) c.next_pass-table_pass.result 0 1 (n + 1) n (omega arith) (omega arith) (sym c.next_pass-table_pass.ensures.next ∙ c.stack_up.ensures.stack ∙ c.requires.fresh.table ∙ ap (λ m. map (fresh T.id) (range_with_len 0 m)) c.requires.fresh.roles.table) in
     c.new-host.ensures ∙ ap (λ x. hands x c.only_pass-peers_pass.result c.only_pass-items_pass.result) first.0 ∙ ap (λ x. hands (fresh T.id 0) x c.only_pass-items_pass.result) c.only_pass-peers_pass.ensures.pass ∙ ap (λ x. hands (fresh T.id 0) (fresh P.id 0) x) c.only_pass-items_pass.ensures.pass
 
 pub seat_all-requires-clause-passes : goal.seat_all-requires-clause-passes
 seat_all-requires-clause-passes c =
     let T = c.args.desk.now.turns.now.table in
-    let n = length c.args.jobs.now in
+    let n = length c.args.wanted.now.jobs.now in
     (row_next (fresh T.id) (reverse c.next_pass-table_pass.new.stack.items) c.next_pass-table_pass.result 0 1 (n + 1) n (omega arith) (omega arith) (sym c.next_pass-table_pass.ensures.next ∙ c.stack_up.ensures.stack ∙ c.requires.fresh.table ∙ ap (λ m. map (fresh T.id) (range_with_len 0 m)) c.requires.fresh.roles.table)).1

@@ -11,25 +11,25 @@ use Rattle.look_many.proofs.Seating.{zip_left, zip_next, zip_more, row_left, row
 use Rattle.look_many.proofs.opening.seat_all.Goals as goal
 
 pub next_book-book-requires : goal.next_book-book-requires
-next_book-book-requires c = record { some = zip_left (IsBookFor c.args.server.now c.args.setting.now c.args.tables.now.start) c.args.jobs.now c.loop-i.books.items c.loop-i.i c.loop-i-test.true c.loop-i.invariant.books }
+next_book-book-requires c = record { some = zip_left (IsBookFor c.args.desk.now.setting.now c.args.setting.now c.args.desk.now.turns.now.table.start) c.args.jobs.now c.loop-i.books.items c.loop-i.i c.loop-i-test.true c.loop-i.invariant.books }
 
 pub next_pass-pass-requires : goal.next_pass-pass-requires
 next_pass-pass-requires c =
     let lt : c.loop-i.i < length c.args.jobs.now = c.loop-i-test.true in
-    record { some = row_left (fresh c.args.tables.now.id) c.loop-i.stack.items (1 + c.loop-i.i) (length c.args.jobs.now - c.loop-i.i) (omega (arith, lt)) c.loop-i.invariant.stack }
+    record { some = row_left (fresh c.args.desk.now.turns.now.table.id) c.loop-i.stack.items (1 + c.loop-i.i) (length c.args.jobs.now - c.loop-i.i) (omega (arith, lt)) c.loop-i.invariant.stack }
 
 pub loop-i-preserved : goal.loop-i-preserved
 loop-i-preserved c =
     let ts = c.args.jobs.now in
     let i = c.loop-i.i in
     let lt : c.loop-i.i < length c.args.jobs.now = c.loop-i-test.true in
-    let server = c.args.server.now in
+    let server = c.args.desk.now.setting.now in
     let setting = c.args.setting.now in
-    let table = c.args.tables.now.start in
+    let table = c.args.desk.now.turns.now.table.start in
     let inv = c.loop-i.invariant in
     let book = c.next_book-book.result in
     let pass = c.next_pass-pass.result in
-    let f = fresh c.args.tables.now.id in
+    let f = fresh c.args.desk.now.turns.now.table.id in
     let job = c.index-jobs-i.result in
     let more = zip_next (IsBookFor server setting table) ts _ book i (i + 1) job (omega arith) lt (subst (AllZip (IsBookFor server setting table) (drop i ts)) c.next_book-book.ensures.next inv.books) in
     let n = length ts - i in

@@ -14,9 +14,8 @@ serving-init g c = record {
   said = c.requires.said;
   journals = refl;
   gathered = refl;
-  goes = λ words. advances_none false (g.G.SealCheck.accepted c.args.seal.now) (g.G.Seal.tag_of c.args.seal.now) c.args.desk.now.setting.now (stand c.args.seekers.now c.args.progress.now words c.args.host.now (g.L.Link.told c.args.link.now));
-  same = same_none c.args.host.now;
-  room = search rules;
+  goes = λ words. advances_none false (g.G.SealCheck.accepted c.args.site.now.seal.now) (g.G.Seal.tag_of c.args.site.now.seal.now) c.args.site.now.desk.setting.now (stand c.args.seekers.now c.args.driver.now.progress words c.args.driver.now.host (g.L.Link.told c.args.link.now));
+  same = same_none c.args.driver.now.host;
   moment = search rules;
   len = refl;
   seats = same_seats c.args.seekers.now;
@@ -26,7 +25,7 @@ serving-init g c = record {
 }
 
 pub receive_until-requires-clause-may : goal.receive_until-requires-clause-may
-receive_until-requires-clause-may g c = may_serve c.serving.seekers c.serving.progress c.waits_to-until.result c.serving.invariant.may c.serving.invariant.said (c.has_enough.ensures.more (search rules)) c.waits_to-until.ensures
+receive_until-requires-clause-may g c = may_serve c.serving.seekers c.serving.driver.progress c.waits_to-until.result c.serving.invariant.may c.serving.invariant.said (c.has_enough.ensures.more (search rules)) c.waits_to-until.ensures
 
 pub serving-preserved : goal.serving-preserved
 serving-preserved g c =
@@ -34,14 +33,13 @@ serving-preserved g c =
     let new = c.receive_until.new in
     let r = c.in-Ok.ensures in
     record {
-      may = serve_next c.serving.seekers new.seekers c.serving.progress new.progress h.may (c.has_enough.ensures.more (search rules)) r.received;
+      may = serve_next c.serving.seekers new.seekers c.serving.driver.progress new.driver.progress h.may (c.has_enough.ensures.more (search rules)) r.received;
       said = r.received.unsaid ∙ h.said;
       journals = r.received.same refl ∙ h.journals;
       gathered = r.received.same_gathered refl ∙ h.gathered;
-      goes = λ words. advances_then false [] [] (g.G.SealCheck.accepted c.args.seal.now) (g.G.Seal.tag_of c.args.seal.now) c.args.desk.now.setting.now (stand c.args.seekers.now c.args.progress.now words c.args.host.now (g.L.Link.told c.args.link.now))
-          (stand c.serving.seekers c.serving.progress words c.serving.host (g.L.Link.told c.serving.link)) (stand new.seekers new.progress words new.host (g.L.Link.told new.link)) h.same (h.goes words) (r.goes words);
-      same = same_more c.args.host.now c.serving.host new.host h.same r.same;
-      room = search rules;
+      goes = λ words. advances_then false [] [] (g.G.SealCheck.accepted c.args.site.now.seal.now) (g.G.Seal.tag_of c.args.site.now.seal.now) c.args.site.now.desk.setting.now (stand c.args.seekers.now c.args.driver.now.progress words c.args.driver.now.host (g.L.Link.told c.args.link.now))
+          (stand c.serving.seekers c.serving.driver.progress words c.serving.driver.host (g.L.Link.told c.serving.link)) (stand new.seekers new.driver.progress words new.driver.host (g.L.Link.told new.link)) h.same (h.goes words) (r.goes words);
+      same = same_more c.args.driver.now.host c.serving.driver.host new.driver.host h.same r.same;
       moment = search rules;
       len = r.len ∙ h.len;
       seats = seats_then c.args.seekers.now c.serving.seekers new.seekers h.seats r.seats;
@@ -53,10 +51,10 @@ serving-preserved g c =
 pub returns-in-Err-clause-stops : goal.returns-in-Err-clause-stops
 returns-in-Err-clause-stops g c words =
     let h = c.serving.invariant in
-    let mid = stand c.serving.seekers c.serving.progress words c.serving.host (g.L.Link.told c.serving.link) in
-    ends_after false c.in-Err.fault (g.G.SealCheck.accepted c.args.seal.now) (g.G.Seal.tag_of c.args.seal.now) c.args.desk.now.setting.now (stand c.args.seekers.now c.args.progress.now words c.args.host.now (g.L.Link.told c.args.link.now))
-    mid c.receive_until.new.host (g.L.Link.told c.receive_until.new.link) h.same (stays_same c.args.seekers.now c.serving.seekers h.journals h.gathered h.seats) (λ idle. h.journals) (λ idle. h.gathered) (h.goes words)
-    (ends_now false c.in-Err.fault (g.G.SealCheck.accepted c.args.seal.now) (g.G.Seal.tag_of c.args.seal.now) c.args.desk.now.setting.now mid c.receive_until.new.host (g.L.Link.told c.receive_until.new.link) c.all_legal.ensures (c.in-Err.ensures.stops words) c.in-Err.ensures.ran_on)
+    let mid = stand c.serving.seekers c.serving.driver.progress words c.serving.driver.host (g.L.Link.told c.serving.link) in
+    ends_after false c.in-Err.fault (g.G.SealCheck.accepted c.args.site.now.seal.now) (g.G.Seal.tag_of c.args.site.now.seal.now) c.args.site.now.desk.setting.now (stand c.args.seekers.now c.args.driver.now.progress words c.args.driver.now.host (g.L.Link.told c.args.link.now))
+    mid c.receive_until.new.driver.host (g.L.Link.told c.receive_until.new.link) h.same (stays_same c.args.seekers.now c.serving.seekers h.journals h.gathered h.seats) (λ idle. h.journals) (λ idle. h.gathered) (h.goes words)
+    (ends_now false c.in-Err.fault (g.G.SealCheck.accepted c.args.site.now.seal.now) (g.G.Seal.tag_of c.args.site.now.seal.now) c.args.site.now.desk.setting.now mid c.receive_until.new.driver.host (g.L.Link.told c.receive_until.new.link) c.all_legal.ensures (c.in-Err.ensures.stops words) c.in-Err.ensures.ran_on)
 
 pub returns-in-Err-clause-seats : goal.returns-in-Err-clause-seats
 returns-in-Err-clause-seats g c = seats_then c.args.seekers.now c.serving.seekers c.receive_until.new.seekers c.serving.invariant.seats c.receive_until.ensures.seats

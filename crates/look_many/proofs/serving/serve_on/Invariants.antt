@@ -1,6 +1,5 @@
 use Rattle.std.proofs.Common.{◌≡◌, [], ◌+◌, length, map, false, ◌≤◌}
 use Rattle.std.specs.List.{AllZip}
-use Rattle.kad_base.specs.Limits.{max_datagram}
 use Rattle.id_puzzles.specs.Drawn.{WordsState}
 use Rattle.serve_crew.specs.Hands.{SameHands}
 use Rattle.lookup_crowd.specs.inner.Crowd.{whose, SameSeat, Advances, stand}
@@ -9,14 +8,13 @@ use Rattle.look_many.proofs.serving.serve_on.Given as goal
 
 abbrev pub invariant-serving : goal.invariant-serving
 invariant-serving g l = record {
-  may : MayServe l.seekers l.progress;
-  said : l.progress.unsaid ≡ 0;
+  may : MayServe l.seekers l.driver.progress;
+  said : l.driver.progress.unsaid ≡ 0;
   journals : map whose l.seekers ≡ map whose l.fn.seekers;
   gathered : map (λ k. k.gathered) l.seekers ≡ map (λ k. k.gathered) l.fn.seekers;
-  goes : (words : WordsState) → Advances false [] (g.G.SealCheck.accepted l.seal) (g.G.Seal.tag_of l.seal) l.desk.setting.now (stand l.fn.seekers l.fn.progress words l.fn.host (g.L.Link.told l.fn.link)) (stand l.seekers l.progress words l.host (g.L.Link.told l.link));
-  same : SameHands l.fn.host l.host;
-  room : length l.buf ≡ max_datagram + 1;
-  moment : g.L.Link.moment l.link ≡ l.progress.moment;
+  goes : (words : WordsState) → Advances false [] (g.G.SealCheck.accepted l.site.seal.now) (g.G.Seal.tag_of l.site.seal.now) l.site.desk.setting.now (stand l.fn.seekers l.fn.driver.progress words l.fn.driver.host (g.L.Link.told l.fn.link)) (stand l.seekers l.driver.progress words l.driver.host (g.L.Link.told l.link));
+  same : SameHands l.fn.driver.host l.driver.host;
+  moment : g.L.Link.moment l.link ≡ l.driver.progress.moment;
   len : length l.seekers ≡ length l.fn.seekers;
   seats : AllZip SameSeat l.fn.seekers l.seekers;
   faults : g.L.Link.recv_faults l.link ≡ g.L.Link.recv_faults l.fn.link;
@@ -25,4 +23,4 @@ invariant-serving g l = record {
 }
 
 abbrev pub decreases-serving : goal.decreases-serving
-decreases-serving g l = l.progress.left
+decreases-serving g l = l.driver.progress.left

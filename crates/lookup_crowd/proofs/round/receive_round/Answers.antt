@@ -13,12 +13,11 @@ receiving-preserved g c =
     let new = c.receive-in-receiving.new in
     let r = c.in-Ok-receive.ensures in
     record {
-      may = may_go_on c.receiving.seekers new.seekers c.receiving.progress new.progress r.received;
-      received = received_next c.args.seekers.now c.receiving.seekers new.seekers c.args.progress.now c.receiving.progress new.progress h.received r.received r.later;
-      goes = λ words. advances_then true [] [] (g.G.SealCheck.accepted c.args.seal.now) (g.G.Seal.tag_of c.args.seal.now) c.args.desk.now.setting.now (stand c.args.seekers.now c.args.progress.now words c.args.host.now (g.L.Link.told c.args.link.now))
-          (stand c.receiving.seekers c.receiving.progress words c.receiving.host (g.L.Link.told c.receiving.link)) (stand new.seekers new.progress words new.host (g.L.Link.told new.link)) h.same (h.goes words) (r.goes words);
-      same = same_more c.args.host.now c.receiving.host new.host h.same r.same;
-      room = search rules;
+      may = may_go_on c.receiving.seekers new.seekers c.receiving.driver.progress new.driver.progress r.received;
+      received = received_next c.args.seekers.now c.receiving.seekers new.seekers c.args.driver.now.progress c.receiving.driver.progress new.driver.progress h.received r.received r.later;
+      goes = λ words. advances_then true [] [] (g.G.SealCheck.accepted c.args.site.now.seal.now) (g.G.Seal.tag_of c.args.site.now.seal.now) c.args.site.now.desk.setting.now (stand c.args.seekers.now c.args.driver.now.progress words c.args.driver.now.host (g.L.Link.told c.args.link.now))
+          (stand c.receiving.seekers c.receiving.driver.progress words c.receiving.driver.host (g.L.Link.told c.receiving.link)) (stand new.seekers new.driver.progress words new.driver.host (g.L.Link.told new.link)) h.same (h.goes words) (r.goes words);
+      same = same_more c.args.driver.now.host c.receiving.driver.host new.driver.host h.same r.same;
       moment = search rules;
       len = r.len ∙ h.len;
       faults = r.well (λ is. cc) ∙ h.faults;
@@ -29,14 +28,14 @@ receiving-preserved g c =
 pub returns-in-Err-receive-clause-stops : goal.returns-in-Err-receive-clause-stops
 returns-in-Err-receive-clause-stops g c words =
     let h = c.receiving.invariant in
-    ends_after true c.in-Err-receive.fault (g.G.SealCheck.accepted c.args.seal.now) (g.G.Seal.tag_of c.args.seal.now) c.args.desk.now.setting.now (stand c.args.seekers.now c.args.progress.now words c.args.host.now (g.L.Link.told c.args.link.now))
-    (stand c.receiving.seekers c.receiving.progress words c.receiving.host (g.L.Link.told c.receiving.link)) c.receive-in-receiving.new.host (g.L.Link.told c.receive-in-receiving.new.link) h.same (stays_received c.args.seekers.now c.receiving.seekers c.args.progress.now c.receiving.progress h.received) (λ idle. absurd cc) (λ idle. absurd cc) (h.goes words) (c.in-Err-receive.ensures.stops words)
+    ends_after true c.in-Err-receive.fault (g.G.SealCheck.accepted c.args.site.now.seal.now) (g.G.Seal.tag_of c.args.site.now.seal.now) c.args.site.now.desk.setting.now (stand c.args.seekers.now c.args.driver.now.progress words c.args.driver.now.host (g.L.Link.told c.args.link.now))
+    (stand c.receiving.seekers c.receiving.driver.progress words c.receiving.driver.host (g.L.Link.told c.receiving.link)) c.receive-in-receiving.new.driver.host (g.L.Link.told c.receive-in-receiving.new.link) h.same (stays_received c.args.seekers.now c.receiving.seekers c.args.driver.now.progress c.receiving.driver.progress h.received) (λ idle. absurd cc) (λ idle. absurd cc) (h.goes words) (c.in-Err-receive.ensures.stops words)
 
 pub returns-in-Err-receive-clause-strays : goal.returns-in-Err-receive-clause-strays
 returns-in-Err-receive-clause-strays g c is words =
     let h = c.receiving.invariant in
-    ends_last_after (g.G.SealCheck.accepted c.args.seal.now) (g.G.Seal.tag_of c.args.seal.now) c.args.desk.now.setting.now (stand c.args.seekers.now c.args.progress.now words c.args.host.now (g.L.Link.told c.args.link.now))
-    (stand c.receiving.seekers c.receiving.progress words c.receiving.host (g.L.Link.told c.receiving.link)) c.receive-in-receiving.new.host (g.L.Link.told c.receive-in-receiving.new.link) h.same (stays_received c.args.seekers.now c.receiving.seekers c.args.progress.now c.receiving.progress h.received) (h.goes words) (c.in-Err-receive.ensures.strays is words)
+    ends_last_after (g.G.SealCheck.accepted c.args.site.now.seal.now) (g.G.Seal.tag_of c.args.site.now.seal.now) c.args.site.now.desk.setting.now (stand c.args.seekers.now c.args.driver.now.progress words c.args.driver.now.host (g.L.Link.told c.args.link.now))
+    (stand c.receiving.seekers c.receiving.driver.progress words c.receiving.driver.host (g.L.Link.told c.receiving.link)) c.receive-in-receiving.new.driver.host (g.L.Link.told c.receive-in-receiving.new.link) h.same (stays_received c.args.seekers.now c.receiving.seekers c.args.driver.now.progress c.receiving.driver.progress h.received) (h.goes words) (c.in-Err-receive.ensures.strays is words)
 
 pub returns-in-Err-receive-clause-seats : goal.returns-in-Err-receive-clause-seats
 returns-in-Err-receive-clause-seats g c = seats_then c.args.seekers.now c.receiving.seekers c.receive-in-receiving.new.seekers c.receiving.invariant.received.seats c.receive-in-receiving.ensures.seats

@@ -1,5 +1,4 @@
-use Rattle.std.proofs.Common.{◌≡◌, ◌≢◌, [], ◌+◌, length, true, ◌≤◌}
-use Rattle.kad_base.specs.Limits.{max_datagram}
+use Rattle.std.proofs.Common.{◌≡◌, ◌≢◌, [], length, true, ◌≤◌}
 use Rattle.id_puzzles.specs.Drawn.{WordsState}
 use Rattle.serve_crew.specs.Hands.{SameHands}
 use Rattle.lookup_crowd.specs.inner.Crowd.{Advances, stand}
@@ -9,12 +8,11 @@ use Rattle.lookup_crowd.proofs.round.receive_round.Given as goal
 
 abbrev pub invariant-receiving : goal.invariant-receiving
 invariant-receiving g l = record {
-  may : l.progress.receives ≢ 0 → MayAwait l.seekers l.progress;
-  received : ReceivedAll l.fn.seekers l.seekers l.fn.progress l.progress;
-  goes : (words : WordsState) → Advances true [] (g.G.SealCheck.accepted l.seal) (g.G.Seal.tag_of l.seal) l.desk.setting.now (stand l.fn.seekers l.fn.progress words l.fn.host (g.L.Link.told l.fn.link)) (stand l.seekers l.progress words l.host (g.L.Link.told l.link));
-  same : SameHands l.fn.host l.host;
-  room : length l.buf ≡ max_datagram + 1;
-  moment : g.L.Link.moment l.link ≡ l.progress.moment;
+  may : l.driver.progress.receives ≢ 0 → MayAwait l.seekers l.driver.progress;
+  received : ReceivedAll l.fn.seekers l.seekers l.fn.driver.progress l.driver.progress;
+  goes : (words : WordsState) → Advances true [] (g.G.SealCheck.accepted l.site.seal.now) (g.G.Seal.tag_of l.site.seal.now) l.site.desk.setting.now (stand l.fn.seekers l.fn.driver.progress words l.fn.driver.host (g.L.Link.told l.fn.link)) (stand l.seekers l.driver.progress words l.driver.host (g.L.Link.told l.link));
+  same : SameHands l.fn.driver.host l.driver.host;
+  moment : g.L.Link.moment l.link ≡ l.driver.progress.moment;
   len : length l.seekers ≡ length l.fn.seekers;
   faults : g.L.Link.recv_faults l.link ≡ g.L.Link.recv_faults l.fn.link;
   sends : g.L.Link.send_faults l.fn.link ≤ g.L.Link.send_faults l.link;
@@ -22,4 +20,4 @@ invariant-receiving g l = record {
 }
 
 abbrev pub decreases-receiving : goal.decreases-receiving
-decreases-receiving g l = still_to l.progress.receives
+decreases-receiving g l = still_to l.driver.progress.receives
