@@ -11,7 +11,7 @@ ghost use Rattle.node_serve.specs.Calls.{IsSetting};
 ghost use Rattle.serve_crew.specs.Hands.{SameHands};
 ghost use Rattle.serve_crew.specs.Opening.{AreEmpty, AreFresh, HaveAll, HaveRoles};
 ghost use Rattle.lookup_crowd.specs.Errands.{max_lookups};
-ghost use Rattle.lookup_crowd.specs.inner.Crowd.{LosesMore, stand};
+ghost use Rattle.lookup_crowd.specs.inner.Crowd.{LosesMore, standing};
 ghost use Rattle.lookup_crowd.specs.inner.ManySteps.{IsOfDesk, IsRunOut, IsSeated};
 ghost use Rattle.lookup_crowd.specs.inner.Going.{Begins, SameSeats};
 ghost use Rattle.look_many.specs.Job.{MaySayOf};
@@ -88,7 +88,7 @@ fn go<R: Threads + Wait + Sync, L: Link, C: PacedCheck + Sync, G: Seal + SealChe
     requires carried { AllByRecursion MaySayOf jobs.now }
     requires own { IsOfDesk site.now.desk driver.old.host }
     requires seated { AllByRecursion (IsSeated site.now.desk.turns.now.table) seekers.old }
-    requires begins { Begins (stand seekers.old driver.old.progress words.old driver.old.host (L.told link.old)) }
+    requires begins { Begins (standing seekers.old driver.old words.old (L.told link.old)) }
     requires some_query { AllByRecursion (λ k. 1 ≤ k.lookup.book.setting.alpha) seekers.old }
     requires none_owned { log.old.owners.items ≡ [] }
     requires none_said { log.old.said.items ≡ [] }
@@ -97,11 +97,11 @@ fn go<R: Threads + Wait + Sync, L: Link, C: PacedCheck + Sync, G: Seal + SealChe
     ensures len { length seekers.new ≡ length seekers.old }
     ensures seats { SameSeats seekers.old seekers.new }
     ensures went { OnOk result (WentWhole (G.accepted site.now.seal.now) (G.tag_of site.now.seal.now) site.now.desk.setting.now jobs.now
-        (stand seekers.old driver.old.progress words.old driver.old.host (L.told link.old))
-        (stand seekers.new driver.new.progress words.new driver.new.host (L.told link.new)) log.new.owners.items
+        (standing seekers.old driver.old words.old (L.told link.old))
+        (standing seekers.new driver.new words.new (L.told link.new)) log.new.owners.items
         log.new.said.items) }
     ensures ends { IfErr result (λ fault. EndsWhole fault (G.accepted site.now.seal.now) (G.tag_of site.now.seal.now)
-        site.now.desk.setting.now jobs.now (stand seekers.old driver.old.progress words.old driver.old.host (L.told link.old))
+        site.now.desk.setting.now jobs.now (standing seekers.old driver.old words.old (L.told link.old))
         words.new driver.new.host (L.told link.new)) }
     ensures link { IsErrOf result ManyFault.LinkFault
         → Rose (L.recv_faults link.old) (L.recv_faults link.new) }

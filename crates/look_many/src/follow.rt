@@ -10,7 +10,7 @@ ghost use Rattle.node_serve.specs.Calls.{IsSetting};
 ghost use Rattle.node_serve.specs.Receives.{tried};
 ghost use Rattle.serve_crew.specs.Hands.{SameHands};
 ghost use Rattle.lookup_crowd.specs.Many.{follow_bytes};
-ghost use Rattle.lookup_crowd.specs.inner.Crowd.{SameSeat, stand};
+ghost use Rattle.lookup_crowd.specs.inner.Crowd.{SameSeat, standing};
 ghost use Rattle.lookup_crowd.specs.inner.ManySteps.{IsOfDesk};
 ghost use Rattle.look_many.specs.inner.Serving.{MayServe};
 ghost use Rattle.look_many.specs.inner.Following.{CarriesOf, EndsSaying, Says};
@@ -200,14 +200,14 @@ pub(crate) fn follow_all<R: Wait, L: Link, C, G: Seal + SealCheck>(
     ensures len { length seekers.new ≡ length seekers.old }
     ensures seats { AllZip SameSeat seekers.old seekers.new }
     ensures says { OnOk result (Says plan (G.accepted site.now.seal.now) (G.tag_of site.now.seal.now) site.now.desk.setting.now
-        (stand seekers.old driver.old.progress words.old driver.old.host (L.told link.old))
-        (stand seekers.new driver.new.progress words.new driver.new.host (L.told link.new))
+        (standing seekers.old driver.old words.old (L.told link.old))
+        (standing seekers.new driver.new words.new (L.told link.new))
         log.old.owners.items log.new.owners.items log.old.said.items log.new.said.items) }
     ensures unsaid { OnOk result (driver.new.progress.unsaid ≡ 0) }
     ensures moment { OnOk result (L.moment link.new ≡ driver.new.progress.moment) }
     ensures stops { IfErr result (λ fault. EndsSaying fault plan
         (G.accepted site.now.seal.now) (G.tag_of site.now.seal.now) site.now.desk.setting.now
-        (stand seekers.old driver.old.progress words.old driver.old.host (L.told link.old)) words.new driver.new.host
+        (standing seekers.old driver.old words.old (L.told link.old)) words.new driver.new.host
         (L.told link.new)) }
     ensures strays { ¬ IsErrOf result ManyFault.Strays }
     ensures link { IsErrOf result ManyFault.LinkFault

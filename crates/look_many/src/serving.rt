@@ -6,7 +6,7 @@ ghost use Rattle.kad_base.specs.Outside.{Rose};
 ghost use Rattle.id_puzzles.specs.Drawn.{WordsState};
 ghost use Rattle.node_serve.specs.Calls.{IsSetting};
 ghost use Rattle.serve_crew.specs.Hands.{SameHands};
-ghost use Rattle.lookup_crowd.specs.inner.Crowd.{whose, SameSeat, Advances, stand};
+ghost use Rattle.lookup_crowd.specs.inner.Crowd.{whose, SameSeat, Advances, standing};
 ghost use Rattle.lookup_crowd.specs.inner.ManySteps.{IsOfDesk, EndsEarly};
 ghost use Rattle.look_many.specs.inner.Serving.{MayServe, HasEnough, WantsMore};
 
@@ -45,8 +45,8 @@ pub(crate) fn serve_on<R: Wait, L: Link, C, G: Seal + SealCheck>(
     ensures seats { AllZip SameSeat seekers.old seekers.new }
     ensures goes { OnOk result ((words : WordsState) → Advances false [] (G.accepted site.now.seal.now)
         (G.tag_of site.now.seal.now) site.now.desk.setting.now
-        (stand seekers.old driver.old.progress words driver.old.host (L.told link.old))
-        (stand seekers.new driver.new.progress words driver.new.host (L.told link.new))) }
+        (standing seekers.old driver.old words (L.told link.old))
+        (standing seekers.new driver.new words (L.told link.new))) }
     ensures may { OnOk result (MayServe seekers.new driver.new.progress) }
     ensures said { OnOk result (driver.new.progress.unsaid ≡ 0) }
     ensures journals { OnOk result (map whose seekers.new ≡ map whose seekers.old) }
@@ -55,7 +55,7 @@ pub(crate) fn serve_on<R: Wait, L: Link, C, G: Seal + SealCheck>(
     ensures moment { OnOk result (L.moment link.new ≡ driver.new.progress.moment) }
     ensures stops { IfErr result (λ fault. (words : WordsState) → EndsEarly false fault
         (G.accepted site.now.seal.now) (G.tag_of site.now.seal.now) site.now.desk.setting.now
-        (stand seekers.old driver.old.progress words driver.old.host (L.told link.old)) driver.new.host (L.told link.new)) }
+        (standing seekers.old driver.old words (L.told link.old)) driver.new.host (L.told link.new)) }
     ensures strays { ¬ IsErrOf result ManyFault.Strays }
     ensures link { IsErrOf result ManyFault.LinkFault
         → Rose (L.recv_faults link.old) (L.recv_faults link.new) }

@@ -7,7 +7,7 @@ ghost use Rattle.kad_base.specs.Outside.{Grows, Rose};
 ghost use Rattle.id_puzzles.specs.Drawn.{WordsState};
 ghost use Rattle.node_serve.specs.Calls.{IsSetting};
 ghost use Rattle.serve_crew.specs.Hands.{SameHands};
-ghost use Rattle.lookup_crowd.specs.inner.Crowd.{Holding, SameSeat, Advances, stand};
+ghost use Rattle.lookup_crowd.specs.inner.Crowd.{Holding, SameSeat, Advances, standing};
 ghost use Rattle.lookup_crowd.specs.inner.ManySteps.{owed_in, IsOfDesk, Counts, Handles, Comes, Passes, Pays, after_paid, IsLastForeign, MayReceive, Received, Stops, EndsByForeign, RanOn};
 
 use crate::host::{answer, expire_all};
@@ -208,18 +208,18 @@ pub fn receive_until<R: Wait, L: Link, C, G: Seal + SealCheck>(
     ensures seats { AllZip SameSeat seekers.old seekers.new }
     ensures goes { OnOk result ((words : WordsState) → Advances busy [] (G.accepted site.now.seal.now)
         (G.tag_of site.now.seal.now) site.now.desk.setting.now
-        (stand seekers.old driver.old.progress words driver.old.host (L.told link.old))
-        (stand seekers.new driver.new.progress words driver.new.host (L.told link.new))) }
+        (standing seekers.old driver.old words (L.told link.old))
+        (standing seekers.new driver.new words (L.told link.new))) }
     ensures received { OnOk result (Received busy seekers.old seekers.new driver.old.progress driver.new.progress) }
     ensures later { OnOk result (driver.old.progress.moment ≤ driver.new.progress.moment) }
     ensures moment { OnOk result (L.moment link.new ≡ driver.new.progress.moment) }
     ensures stops { IfErr result (λ fault. (words : WordsState) → Stops busy fault
         (G.accepted site.now.seal.now) (G.tag_of site.now.seal.now) site.now.desk.setting.now
-        (stand seekers.old driver.old.progress words driver.old.host (L.told link.old)) (L.told link.new)) }
+        (standing seekers.old driver.old words (L.told link.old)) (L.told link.new)) }
     ensures ran_on { OnErr result (RanOn driver.old.host driver.new.host) }
     ensures strays { IsErrOf result ManyFault.Strays → (words : WordsState)
         → EndsByForeign busy (G.accepted site.now.seal.now) (G.tag_of site.now.seal.now) site.now.desk.setting.now
-        (stand seekers.old driver.old.progress words driver.old.host (L.told link.old)) (L.told link.new) }
+        (standing seekers.old driver.old words (L.told link.old)) (L.told link.new) }
     ensures busy { IsErrOf result ManyFault.Strays → busy ≡ true }
     ensures link { IsErrOf result ManyFault.LinkFault
         → Rose (L.recv_faults link.old) (L.recv_faults link.new) }

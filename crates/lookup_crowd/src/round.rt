@@ -6,7 +6,7 @@ ghost use Rattle.kad_base.specs.Outside.{Rose};
 ghost use Rattle.id_puzzles.specs.Drawn.{WordsState};
 ghost use Rattle.node_serve.specs.Calls.{IsSetting};
 ghost use Rattle.serve_crew.specs.Hands.{SameHands};
-ghost use Rattle.lookup_crowd.specs.inner.Crowd.{SameSeat, Advances, stand};
+ghost use Rattle.lookup_crowd.specs.inner.Crowd.{SameSeat, Advances, standing};
 ghost use Rattle.lookup_crowd.specs.inner.ManySteps.{IsOfDesk, MayAwait, Received, ReceivedAll, EndsEarly, EndsLast};
 
 use crate::legal::all_legal;
@@ -36,17 +36,17 @@ fn receive<R: Wait, L: Link, C, G: Seal + SealCheck>(
     ensures seats { AllZip SameSeat seekers.old seekers.new }
     ensures goes { OnOk result ((words : WordsState) → Advances true [] (G.accepted site.now.seal.now)
         (G.tag_of site.now.seal.now) site.now.desk.setting.now
-        (stand seekers.old driver.old.progress words driver.old.host (L.told link.old))
-        (stand seekers.new driver.new.progress words driver.new.host (L.told link.new))) }
+        (standing seekers.old driver.old words (L.told link.old))
+        (standing seekers.new driver.new words (L.told link.new))) }
     ensures received { OnOk result (Received true seekers.old seekers.new driver.old.progress driver.new.progress) }
     ensures later { OnOk result (driver.old.progress.moment ≤ driver.new.progress.moment) }
     ensures moment { OnOk result (L.moment link.new ≡ driver.new.progress.moment) }
     ensures stops { IfErr result (λ fault. (words : WordsState) → EndsEarly true fault
         (G.accepted site.now.seal.now) (G.tag_of site.now.seal.now) site.now.desk.setting.now
-        (stand seekers.old driver.old.progress words driver.old.host (L.told link.old)) driver.new.host (L.told link.new)) }
+        (standing seekers.old driver.old words (L.told link.old)) driver.new.host (L.told link.new)) }
     ensures strays { IsErrOf result ManyFault.Strays → (words : WordsState)
         → EndsLast (G.accepted site.now.seal.now) (G.tag_of site.now.seal.now) site.now.desk.setting.now
-        (stand seekers.old driver.old.progress words driver.old.host (L.told link.old)) driver.new.host (L.told link.new) }
+        (standing seekers.old driver.old words (L.told link.old)) driver.new.host (L.told link.new) }
     ensures link { IsErrOf result ManyFault.LinkFault
         → Rose (L.recv_faults link.old) (L.recv_faults link.new) }
     ensures last { IsErrOf result ManyFault.LinkFault
@@ -82,17 +82,17 @@ pub(crate) fn receive_round<R: Wait, L: Link, C, G: Seal + SealCheck>(
     ensures seats { AllZip SameSeat seekers.old seekers.new }
     ensures goes { OnOk result ((words : WordsState) → Advances true [] (G.accepted site.now.seal.now)
         (G.tag_of site.now.seal.now) site.now.desk.setting.now
-        (stand seekers.old driver.old.progress words driver.old.host (L.told link.old))
-        (stand seekers.new driver.new.progress words driver.new.host (L.told link.new))) }
+        (standing seekers.old driver.old words (L.told link.old))
+        (standing seekers.new driver.new words (L.told link.new))) }
     ensures received { OnOk result (ReceivedAll seekers.old seekers.new driver.old.progress driver.new.progress) }
     ensures over { OnOk result (driver.new.progress.receives ≡ 0) }
     ensures moment { OnOk result (L.moment link.new ≡ driver.new.progress.moment) }
     ensures stops { IfErr result (λ fault. (words : WordsState) → EndsEarly true fault
         (G.accepted site.now.seal.now) (G.tag_of site.now.seal.now) site.now.desk.setting.now
-        (stand seekers.old driver.old.progress words driver.old.host (L.told link.old)) driver.new.host (L.told link.new)) }
+        (standing seekers.old driver.old words (L.told link.old)) driver.new.host (L.told link.new)) }
     ensures strays { IsErrOf result ManyFault.Strays → (words : WordsState)
         → EndsLast (G.accepted site.now.seal.now) (G.tag_of site.now.seal.now) site.now.desk.setting.now
-        (stand seekers.old driver.old.progress words driver.old.host (L.told link.old)) driver.new.host (L.told link.new) }
+        (standing seekers.old driver.old words (L.told link.old)) driver.new.host (L.told link.new) }
     ensures link { IsErrOf result ManyFault.LinkFault
         → Rose (L.recv_faults link.old) (L.recv_faults link.new) }
     ensures last { IsErrOf result ManyFault.LinkFault

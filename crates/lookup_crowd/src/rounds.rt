@@ -5,7 +5,7 @@ ghost use Rattle.kad_base.specs.Failing.{FailsLast};
 ghost use Rattle.kad_base.specs.Outside.{Rose};
 ghost use Rattle.node_serve.specs.Calls.{IsSetting};
 ghost use Rattle.serve_crew.specs.Hands.{SameHands};
-ghost use Rattle.lookup_crowd.specs.inner.Crowd.{LosesMore, stand};
+ghost use Rattle.lookup_crowd.specs.inner.Crowd.{LosesMore, standing};
 ghost use Rattle.lookup_crowd.specs.inner.ManySteps.{IsOfDesk, IsSeated};
 ghost use Rattle.lookup_crowd.specs.inner.Going.{AreOver, Begins, EndGoing, HaveGone, HaveReceived, SameSeats};
 
@@ -35,21 +35,21 @@ fn ask_and_receive<R: Wait, L: Link, C, G: Seal + SealCheck>(
 ) -> Result<bool, ManyFault>
     requires setting { IsSetting site.now.desk.setting.now }
     requires own { IsOfDesk site.now.desk driver.old.host }
-    requires begins { Begins (stand seekers.old driver.old.progress words.old driver.old.host (L.told link.old)) }
+    requires begins { Begins (standing seekers.old driver.old words.old (L.told link.old)) }
     requires moment { L.moment link.old ≡ driver.old.progress.moment }
     ensures same { SameHands driver.old.host driver.new.host }
     ensures len { length seekers.new ≡ length seekers.old }
     ensures seats { SameSeats seekers.old seekers.new }
     ensures goes { OnOk result (HaveGone (G.accepted site.now.seal.now) (G.tag_of site.now.seal.now) site.now.desk.setting.now
-        (stand seekers.old driver.old.progress words.old driver.old.host (L.told link.old))
-        (stand seekers.new driver.new.progress words.new driver.new.host (L.told link.new)) owners.old.items owners.new.items) }
+        (standing seekers.old driver.old words.old (L.told link.old))
+        (standing seekers.new driver.new words.new (L.told link.new)) owners.old.items owners.new.items) }
     ensures received { IfOk result (λ more. more ≡ true
-        → HaveReceived (stand seekers.new driver.new.progress words.new driver.new.host (L.told link.new))) }
+        → HaveReceived (standing seekers.new driver.new words.new (L.told link.new))) }
     ensures over { IfOk result (λ more. more ≡ false
-        → AreOver (stand seekers.new driver.new.progress words.new driver.new.host (L.told link.new))) }
+        → AreOver (standing seekers.new driver.new words.new (L.told link.new))) }
     ensures moment { OnOk result (L.moment link.new ≡ driver.new.progress.moment) }
     ensures ends { IfErr result (λ fault. EndGoing fault (G.accepted site.now.seal.now) (G.tag_of site.now.seal.now)
-        site.now.desk.setting.now (stand seekers.old driver.old.progress words.old driver.old.host (L.told link.old))
+        site.now.desk.setting.now (standing seekers.old driver.old words.old (L.told link.old))
         words.new driver.new.host (L.told link.new)) }
     ensures link { IsErrOf result ManyFault.LinkFault
         → Rose (L.recv_faults link.old) (L.recv_faults link.new) }
@@ -90,18 +90,18 @@ pub fn go_rounds<R: Threads + Wait + Sync, L: Link, C: PacedCheck + Sync, G: Sea
     requires setting { IsSetting site.now.desk.setting.now }
     requires own { IsOfDesk site.now.desk driver.old.host }
     requires seated { AllByRecursion (IsSeated site.now.desk.turns.now.table) seekers.old }
-    requires begins { Begins (stand seekers.old driver.old.progress words.old driver.old.host (L.told link.old)) }
+    requires begins { Begins (standing seekers.old driver.old words.old (L.told link.old)) }
     requires moment { L.moment link.old ≡ driver.old.progress.moment }
     ensures same { SameHands driver.old.host driver.new.host }
     ensures len { length seekers.new ≡ length seekers.old }
     ensures seats { SameSeats seekers.old seekers.new }
     ensures goes { OnOk result (HaveGone (G.accepted site.now.seal.now) (G.tag_of site.now.seal.now) site.now.desk.setting.now
-        (stand seekers.old driver.old.progress words.old driver.old.host (L.told link.old))
-        (stand seekers.new driver.new.progress words.new driver.new.host (L.told link.new)) owners.old.items owners.new.items) }
-    ensures over { OnOk result (AreOver (stand seekers.new driver.new.progress words.new driver.new.host (L.told link.new))) }
+        (standing seekers.old driver.old words.old (L.told link.old))
+        (standing seekers.new driver.new words.new (L.told link.new)) owners.old.items owners.new.items) }
+    ensures over { OnOk result (AreOver (standing seekers.new driver.new words.new (L.told link.new))) }
     ensures moment { OnOk result (L.moment link.new ≡ driver.new.progress.moment) }
     ensures ends { IfErr result (λ fault. EndGoing fault (G.accepted site.now.seal.now) (G.tag_of site.now.seal.now)
-        site.now.desk.setting.now (stand seekers.old driver.old.progress words.old driver.old.host (L.told link.old))
+        site.now.desk.setting.now (standing seekers.old driver.old words.old (L.told link.old))
         words.new driver.new.host (L.told link.new)) }
     ensures link { IsErrOf result ManyFault.LinkFault
         → Rose (L.recv_faults link.old) (L.recv_faults link.new) }

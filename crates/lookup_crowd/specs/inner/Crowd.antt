@@ -24,6 +24,7 @@ use Rattle.serve_crew.specs.Hands.{Hands, Grew}
 use Rattle.lookup_crowd.specs.declared.due.FollowUp.{FollowUp}
 use Rattle.lookup_crowd.specs.declared.seeker.Seeker.{Seeker}
 use Rattle.lookup_crowd.specs.declared.seeker.Progress.{Progress}
+use Rattle.lookup_crowd.specs.declared.seeker.Driver.{Driver}
 use Rattle.lookup_crowd.specs.Mine.{Mine, Whose, driven}
 use Rattle.lookup_crowd.specs.Errands.{Errand, did_of, answer_in, loss_in}
 use Rattle.lookup_crowd.specs.Many.{Frame, Owed, Shown, Reading, and_then, GivesFrom, begun}
@@ -162,6 +163,10 @@ pub record Stand : Type 0 where
 
 abbrev pub stand : List Seeker → Progress → WordsState → Hands → Option (List Event) → Stand
 stand seekers progress words host told = record { seekers = seekers; progress = progress; words = words; host = host; told = told }
+
+-- where they stand under this driver
+abbrev pub standing : List Seeker → Driver → WordsState → Option (List Event) → Stand
+standing seekers driver words told = stand seekers driver.progress words driver.host told
 
 -- what the lookups share is this
 pub record IsFrame (accepts : Accepts) (tags : Tags) (server : ServeSetting) (seed : List ℕ) (f : Frame) : Type 0 where
