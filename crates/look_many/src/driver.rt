@@ -341,13 +341,7 @@ fn work<R: Threads + Wait + Sync, L: Link, C: PacedCheck + Sync, G: Seal + SealC
         &mut log,
         wanted.jobs,
     );
-    put_back(
-        &site.desk,
-        driver.host,
-        room.seekers,
-        rows,
-        &mut room.done,
-    );
+    put_back(&site.desk, driver.host, room.seekers, rows, &mut room.done);
     match ended {
         Ok(()) => {}
         Err(fault) => return Err(fault),

@@ -18,7 +18,9 @@ ghost use Rattle.look_many.specs.inner.Following.{CarriesOf, EndsSaying, Says};
 use id_puzzles::Words;
 use kad_base::{Addr, Link, List, NoMemory, Proof, put_bytes};
 use kad_krpc::{Ask, Message, encode};
-use lookup_crowd::{Buffers, Driver, FollowUp, ManyFault, Progress, Seeker, Site, all_legal, receive_until};
+use lookup_crowd::{
+    Buffers, Driver, FollowUp, ManyFault, Progress, Seeker, Site, all_legal, receive_until,
+};
 use seal_tags::{Seal, SealCheck};
 use std::alloc::Global;
 use std::sync::Wait;

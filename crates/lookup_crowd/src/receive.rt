@@ -125,13 +125,7 @@ fn came<R: Wait, C, G: Seal + SealCheck>(
         Ok(reply) => reply,
         Err(fault) => return Err(fault),
     };
-    expire_all(
-        site.rt,
-        &site.desk,
-        &mut driver.host,
-        seekers,
-        datagram.at,
-    );
+    expire_all(site.rt, &site.desk, &mut driver.host, seekers, datagram.at);
     driver.progress.moment = datagram.at;
     driver.progress.receives = round_after(driver.progress.receives, seekers);
     driver.progress.left = driver.progress.left.saturating_sub(1);
