@@ -140,7 +140,7 @@ fn go<R: Threads + Wait + Sync, L: Link, C: PacedCheck + Sync, G: Seal + SealChe
 #[derive(Clone, Copy)]
 struct Wanted<'a> {
     jobs: &'a [Job],
-    setting: &'a ManySetting,
+    setting: ManySetting,
     lasting: Lasting,
 }
 
@@ -217,7 +217,7 @@ fn seat(
     rows: &mut Rows,
     room: &mut Room,
 ) -> ServeWorker
-    requires books { AllZip (IsBookFor desk.now.setting.now wanted.now.setting.now desk.now.turns.now.table.start) wanted.now.jobs.now
+    requires books { AllZip (IsBookFor desk.now.setting.now wanted.now.setting desk.now.turns.now.table.start) wanted.now.jobs.now
         (reverse room.old.books.items) }
     requires no_seekers { room.old.seekers.items ≡ [] }
     requires seeker_room { length wanted.now.jobs.now ≤ vec_capacity room.old.seekers }
@@ -225,7 +225,7 @@ fn seat(
     requires stack_room { length wanted.now.jobs.now + 1 ≤ vec_capacity room.old.stack }
     requires fresh { AreFresh (length wanted.now.jobs.now + 1) 1 desk.now.turns.now rows.old }
     ensures host { result ≡ new_host desk.now.turns.now }
-    ensures seekers { AllZip (IsSeekerFor desk.now.setting.now wanted.now.setting.now desk.now.turns.now.table.start) wanted.now.jobs.now
+    ensures seekers { AllZip (IsSeekerFor desk.now.setting.now wanted.now.setting desk.now.turns.now.table.start) wanted.now.jobs.now
         room.new.seekers.items }
     ensures passes { map (λ k. k.pass) room.new.seekers.items ≡ map (fresh desk.now.turns.now.table.id)
         (range_with_len 1 (length wanted.now.jobs.now)) }
@@ -240,7 +240,7 @@ fn seat(
     seat_all(
         alloc,
         desk,
-        wanted.setting,
+        &wanted.setting,
         wanted.jobs,
         &mut room.stack,
         &mut room.books,
@@ -289,10 +289,10 @@ fn work<R: Threads + Wait + Sync, L: Link, C: PacedCheck + Sync, G: Seal + SealC
     requires setting { IsSetting site.now.desk.setting.now }
     requires few { length wanted.now.jobs.now ≤ max_lookups }
     requires carried { AllByRecursion MaySayOf wanted.now.jobs.now }
-    requires limits { IsWithinLimits wanted.now.setting.now }
+    requires limits { IsWithinLimits wanted.now.setting }
     requires small { site.now.desk.setting.now.k < 256 }
     requires place { words.old.place < 2 ^ 59 }
-    requires books { AllZip (IsBookFor site.now.desk.setting.now wanted.now.setting.now site.now.desk.turns.now.table.start) wanted.now.jobs.now
+    requires books { AllZip (IsBookFor site.now.desk.setting.now wanted.now.setting site.now.desk.turns.now.table.start) wanted.now.jobs.now
         (reverse room.books.items) }
     requires none_done { room.done.items ≡ [] }
     requires done_room { length wanted.now.jobs.now ≤ vec_capacity room.done }
@@ -302,10 +302,10 @@ fn work<R: Threads + Wait + Sync, L: Link, C: PacedCheck + Sync, G: Seal + SealC
     requires stack_room { length wanted.now.jobs.now + 1 ≤ vec_capacity room.stack }
     requires fresh { AreFresh (length wanted.now.jobs.now + 1) 1 site.now.desk.turns.now rows.old }
     ensures all { HaveAll site.now.desk.turns.now rows.new }
-    ensures ok { IfOk result (FoundBack (task (G.accepted site.now.seal.now) (G.tag_of site.now.seal.now) site.now.desk.setting.now wanted.now.setting.now wanted.now.jobs.now wanted.now.lasting)
+    ensures ok { IfOk result (FoundBack (task (G.accepted site.now.seal.now) (G.tag_of site.now.seal.now) site.now.desk.setting.now wanted.now.setting wanted.now.jobs.now wanted.now.lasting)
         site.now.desk.turns.now rows.new
         words.old words.new (L.told link.old) (L.told link.new)) }
-    ensures stopped { IfErr result (StoppedBack (task (G.accepted site.now.seal.now) (G.tag_of site.now.seal.now) site.now.desk.setting.now wanted.now.setting.now wanted.now.jobs.now wanted.now.lasting)
+    ensures stopped { IfErr result (StoppedBack (task (G.accepted site.now.seal.now) (G.tag_of site.now.seal.now) site.now.desk.setting.now wanted.now.setting wanted.now.jobs.now wanted.now.lasting)
         site.now.desk.turns.now rows.new
         words.old words.new (L.told link.old) (L.told link.new)) }
     ensures link { IsErrOf result ManyFault.LinkFault
@@ -369,18 +369,18 @@ fn work<R: Threads + Wait + Sync, L: Link, C: PacedCheck + Sync, G: Seal + SealC
 /// lookups settle at once after a round, each on a thread of its own. Strangers choose the contacts, so the hasher of the
 /// books' indexes is handed in; no answer depends on it.
 /// `Strays` comes with the 1,000,000th datagram for no lookup while a query is open, `LinkFault` where a receive failed.
-pub fn look_many<R: Threads + Wait + Sync, L: Link, C: PacedCheck + Sync, G: Seal + SealCheck>(
-    rt: &R,
+pub fn look_many<'a, R: Threads + Wait + Sync, L: Link, C: PacedCheck + Sync, G: Seal + SealCheck>(
+    rt: &'a R,
     alloc: Global,
     link: &mut L,
     words: &mut Words,
     table: Table,
-    server: &ServeSetting,
+    server: &'a ServeSetting,
     jobs: &[Job],
     setting: &ManySetting,
     lasting: Lasting,
-    check: &C,
-    seal: &G,
+    check: &'a C,
+    seal: &'a G,
     hasher: RandomState,
 ) -> (Table, Result<Many, ManyFault>)
     requires setting { IsSetting server.now }
@@ -426,7 +426,7 @@ pub fn look_many<R: Threads + Wait + Sync, L: Link, C: PacedCheck + Sync, G: Sea
     };
     let wanted = Wanted {
         jobs,
-        setting,
+        setting: *setting,
         lasting,
     };
     let answer = work(&site, link, words, &wanted, &mut rows, room);
