@@ -60,7 +60,7 @@ const GROUPED: &[&str] = &[
     "--workers",
     "2",
     "--receives",
-    "16",
+    "2",
     "--own",
     "ffffffffffffffffffffffffffffffffffffffff",
     "--group",
@@ -185,15 +185,20 @@ fn a_failed_receive_ends_it_without_the_replies_of_its_batch(rt: HostRuntime) ->
     plays(&rt, FAILED)
 }
 
-/// The first tags of both workers are made at once: each waits until it sees the other. Eight datagrams are worth a thread.
+/// The tags of both replies are made at once: each waits until it sees the other.
 #[test]
 fn two_workers_of_a_batch_are_at_work_at_once(rt: HostRuntime) -> Result<(), Fail> {
     let alloc = rt.alloc();
-    let link = link_at(alloc, &[(10, 7000, PING); 16], &[], &[])?;
+    let link = link_at(
+        alloc,
+        &[(10, 7000, PING), (10, 7001, SECOND_PING)],
+        &[],
+        &[],
+    )?;
     let words = words(alloc, GROUPED)?;
     let seal = MeetingSeal::new([0; 32], 2);
     let played = play_under(&rt, &words, "", link, &Sha1Check, &seal)?;
-    assert_eq!(rt; played.text.as_str(), "received 16 replied 16\n");
+    assert_eq!(rt; played.text.as_str(), "received 2 replied 2\n");
     assert!(rt; seal.is_met());
     Ok(())
 }
