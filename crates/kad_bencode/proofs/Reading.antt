@@ -370,6 +370,34 @@ digit_read bytes at p a low high colon long small =
     nonzero : (b : ℕ) → 48 < b → b ≤ 57 → is_nonzero b ≡ true
     nonzero b k l = grind (arith, nat_tests)
 
+-- ---- a string whose length is two digits
+
+-- two digits, the first not 0, and none behind them
+two_digits : (bytes : List ℕ) (at n : ℕ) → n ≡ (get_or bytes at 0 - 48) * 10 + (get_or bytes (at + 1) 0 - 48) → at + 2 < length bytes → is_nonzero (get_or bytes at 0) ≡ true → 48 ≤ get_or bytes (at + 1) 0 → get_or bytes (at + 1) 0 ≤ 57 → get_or bytes (at + 2) 0 ≡ 58 → ReadsDigits bytes at n (at + 2)
+two_digits bytes at n e long digit low high colon =
+    let most : get_or bytes at 0 < 58 = nonzero_high (get_or bytes at 0) digit in
+    let end : at + 1 + 1 ≡ at + 2 = omega arith in
+    record {
+      digits = subst (DigitsSoFar bytes at n) end (digits_step bytes at (get_or bytes at 0 - 48) (at + 1) n (digits_begin bytes at (omega arith) digit) (omega arith) low high (omega arith));
+      ends = λ k. ap is_digit colon;
+    }
+
+-- two digits, a colon and as many bytes
+pub two_read : (bytes : List ℕ) (at : ℕ) (p : Place) → AwaitsString bytes at p → 49 ≤ get_or bytes at 0 → get_or bytes at 0 ≤ 57 → 48 ≤ get_or bytes (at + 1) 0 → get_or bytes (at + 1) 0 ≤ 57 → get_or bytes (at + 2) 0 ≡ 58 → at + 3 + (get_or bytes at 0 - 48) * 10 + (get_or bytes (at + 1) 0 - 48) ≤ length bytes → length bytes < 2 ^ 64 → ReadsString bytes at p (take (at + 3 + (get_or bytes at 0 - 48) * 10 + (get_or bytes (at + 1) 0 - 48) - (at + 3)) (drop (at + 3) bytes)) (at + 3 + (get_or bytes at 0 - 48) * 10 + (get_or bytes (at + 1) 0 - 48))
+two_read bytes at p a least most low high colon long small =
+    let n : ℕ = (get_or bytes at 0 - 48) * 10 + (get_or bytes (at + 1) 0 - 48) in
+    let next : ℕ = at + 3 + (get_or bytes at 0 - 48) * 10 + (get_or bytes (at + 1) 0 - 48) in
+    let s : List ℕ = take (next - (at + 3)) (drop (at + 3) bytes) in
+    let from : at + 3 ≡ at + 2 + 1 = omega arith in
+    let amount : next - (at + 3) ≡ n = omega arith in
+    let end : at + 2 + 1 + n ≡ next = omega arith in
+    subst (ReadsString bytes at p s) end
+    (string_read bytes at p n (at + 2) s (ap (λ m. take m (drop (at + 3) bytes)) amount ∙ ap (λ m. take n (drop m bytes)) from) a
+    (two_digits bytes at n refl (omega (arith, long)) (nonzero (get_or bytes at 0) least most) low high colon) (omega (arith, long), colon) (omega (arith, long)) small)
+  where
+    nonzero : (b : ℕ) → 49 ≤ b → b ≤ 57 → is_nonzero b ≡ true
+    nonzero b k l = grind (arith, nat_tests)
+
 -- ---- a string of six bytes
 
 -- the digit 6, and none behind it

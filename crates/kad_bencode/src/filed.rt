@@ -1,6 +1,6 @@
 //! A dictionary's keys by the places where they stand: the key at a place, whether it is above another, how a place is noted, and
 //! whether a key is among pairs.
-ghost use Rattle.std.specs.Prelude.{◌≡◌, ℕ, ◌≤◌, List, [], ◌∷◌, ◌++◌, take};
+ghost use Rattle.std.specs.Prelude.{◌≡◌, ℕ, ◌≤◌, List, [], ◌∷◌, ◌++◌, length, take};
 ghost use Rattle.kad_bencode.specs.Keys.{keys_of, key_cmp};
 ghost use Rattle.kad_bencode.specs.Spelling.{has_key, string_text};
 ghost use Rattle.kad_bencode.specs.Faults.{IsAt};
@@ -15,6 +15,9 @@ use crate::scan::short_end;
 /// How many keys are noted at most, of all dictionaries that are open: as many as a datagram of 4,096 bytes has room for, since a
 /// pair takes four at least.
 pub(crate) const MOST: usize = 1024;
+
+/// How many of a short text: one of at most four times as many bytes.
+pub(crate) const SHORT: usize = 64;
 
 /// Whether a key comes after another. Keys are short as a rule, so their bytes are compared one by one.
 pub(crate) fn is_above(a: &[u8], b: &[u8]) -> bool
@@ -52,17 +55,17 @@ pub(crate) fn key_at(bytes: &[u8], place: usize) -> &[u8]
     }
 }
 
-/// Notes a place behind the first so many, and answers how many are noted then: more than `MOST` where there is no room, or the
-/// place is beyond 16 bits.
+/// Notes a place behind the first so many, and answers how many are noted then: more than there is room for if there was none,
+/// or the place is beyond 16 bits.
 #[inline(always)]
-pub(crate) fn note(places: &mut [u16; MOST], top: usize, at: usize) -> usize
+pub(crate) fn note(places: &mut [u16], top: usize, at: usize) -> usize
     ensures order { top ≤ result }
     ensures frame { take top places.new ≡ take top places.old }
-    ensures noted { result ≤ 1024 → (base : ℕ) → base ≤ top
+    ensures noted { result ≤ length places.old → (base : ℕ) → base ≤ top
         → own base result places.new ≡ own base top places.old ++ at ∷ [] }
 {
-    if top >= MOST || at > 65535 {
-        return top.max(MOST + 1);
+    if top >= places.len() || at > 65535 {
+        return top.max(places.len() + 1);
     }
     places[top] = at as u16;
     top + 1

@@ -10,7 +10,7 @@ ghost use Rattle.kad_bencode.specs.Finding.{Shows};
 ghost use Rattle.kad_bencode.specs.Naming.{AreItems, IsCut, IsListOf};
 
 use crate::find::value_in;
-use crate::scan::{has_byte, integer_at, past, string_at};
+use crate::scan::{has_byte, integer_at, past, text_at};
 use crate::value::Bad;
 use crate::verify::check;
 use std::marker::Model;
@@ -230,7 +230,7 @@ pub(crate) fn text_in(bytes: &[u8]) -> Option<&[u8]>
     if has_byte(bytes, 0, b'd') {
         return None;
     }
-    match string_at(bytes, 0) {
+    match text_at(bytes, 0) {
         Ok((string, _)) => Some(string),
         Err(_) => None,
     }

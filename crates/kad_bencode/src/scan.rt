@@ -26,6 +26,21 @@ pub(crate) fn string_at(bytes: &[u8], at: usize) -> Result<(&[u8], usize), Bad>
     }
 }
 
+/// The same of a value: the length of many has two digits, as that of an identifier has. These are read without a call too.
+#[inline(always)]
+pub(crate) fn text_at(bytes: &[u8], at: usize) -> Result<(&[u8], usize), Bad>
+    requires { at ≤ length bytes.now }
+    ensures moves { IfOk result (λ x. (at < x.1) × (x.1 ≤ length bytes.now)) }
+    ensures inside { FailsInside result }
+    ensures reads { (p : Place) → AwaitsString bytes.now at p
+        → Scans bytes.now result (λ x. ReadsString bytes.now at p x.0.now x.1) }
+{
+    match two_end(bytes, at) {
+        Some(next) => Ok((&bytes[at + 3..next], next)),
+        None => string_at(bytes, at),
+    }
+}
+
 /// The same of a string of any length.
 #[inline(never)]
 fn any_string_at(bytes: &[u8], at: usize) -> Result<(&[u8], usize), Bad>
@@ -93,6 +108,35 @@ pub(crate) fn short_end(bytes: &[u8], at: usize) -> Option<usize>
         return None;
     }
     let next = at + 2 + (digit - b'0') as usize;
+    if next > bytes.len() {
+        return None;
+    }
+    Some(next)
+}
+
+/// The same where the length has two digits, as that of an identifier has.
+#[inline(always)]
+fn two_end(bytes: &[u8], at: usize) -> Option<usize>
+    requires { at ≤ length bytes.now }
+    ensures within { IfSome result (λ next. (at + 3 ≤ next) × (next ≤ length bytes.now)) }
+    ensures reads { (p : Place) → AwaitsString bytes.now at p
+        → IfSome result (λ next. ReadsString bytes.now at p (take (next - (at + 3)) (drop (at + 3) bytes.now)) next) }
+{
+    if bytes.len() - at < 3 {
+        return None;
+    }
+    let tens = bytes[at];
+    if tens < b'1' || tens > b'9' {
+        return None;
+    }
+    let ones = bytes[at + 1];
+    if ones < b'0' || ones > b'9' {
+        return None;
+    }
+    if bytes[at + 2] != b':' {
+        return None;
+    }
+    let next = at + 3 + (tens - b'0') as usize * 10 + (ones - b'0') as usize;
     if next > bytes.len() {
         return None;
     }
@@ -211,6 +255,9 @@ fn string_part(bytes: &[u8], at: usize, depth: usize) -> Option<(usize, usize)>
         → MatchOption result ⊥ (λ x. IsBehind bytes.now t x.0 x.1) }
 {
     if let Some(next) = short_end(bytes, at) {
+        return Some((next, depth));
+    }
+    if let Some(next) = two_end(bytes, at) {
         return Some((next, depth));
     }
     match any_string_at(bytes, at) {

@@ -12,9 +12,9 @@ ghost use Rattle.kad_bencode.specs.Finding.{ArePairs, IsNext};
 ghost use Rattle.kad_bencode.specs.Filing.{own, Differ, AreKeys, Noted};
 
 use crate::distinct::first_twice;
-use crate::filed::{MOST, has_key, is_above, key_at, note};
+use crate::filed::{MOST, SHORT, has_key, is_above, key_at, note};
 use crate::reader::MAX_DEPTH;
-use crate::scan::{has_byte, has_digit, integer_at, short_end, string_at};
+use crate::scan::{has_byte, has_digit, integer_at, short_end, string_at, text_at};
 use crate::value::Bad;
 
 /// Whether the bytes spell a value, all of them, or the fault that is seen first.
@@ -33,8 +33,34 @@ pub fn check(bytes: &[u8]) -> Result<(), Bad>
 fn whole(bytes: &[u8]) -> Result<(), Bad>
     ensures { Scans bytes.now result (λ _. (v : Value) × Spells bytes.now v) }
 {
-    let mut places = [0u16; MOST];
-    let next = value_at(bytes, 0, 0, &mut places, 0)?;
+    if bytes.len() <= 4 * SHORT {
+        return whole_of_short(bytes);
+    }
+    whole_of_long(bytes)
+}
+
+/// The same of a short text, whose row of places is short too: less is cleared.
+#[inline(never)]
+fn whole_of_short(bytes: &[u8]) -> Result<(), Bad>
+    ensures { Scans bytes.now result (λ _. (v : Value) × Spells bytes.now v) }
+{
+    whole_in(bytes, &mut [0u16; SHORT])
+}
+
+/// The same of a long text.
+#[inline(never)]
+fn whole_of_long(bytes: &[u8]) -> Result<(), Bad>
+    ensures { Scans bytes.now result (λ _. (v : Value) × Spells bytes.now v) }
+{
+    whole_in(bytes, &mut [0u16; MOST])
+}
+
+/// The same, with a row for the places of its keys.
+#[inline(always)]
+fn whole_in(bytes: &[u8], places: &mut [u16]) -> Result<(), Bad>
+    ensures { Scans bytes.now result (λ _. (v : Value) × Spells bytes.now v) }
+{
+    let next = value_at(bytes, 0, 0, places, 0)?;
     if next < bytes.len() {
         return Err(Bad::Trailing { at: next });
     }
@@ -48,7 +74,7 @@ fn value_at(
     bytes: &[u8],
     at: usize,
     depth: usize,
-    places: &mut [u16; MOST],
+    places: &mut [u16],
     top: usize,
 ) -> Result<usize, Bad>
     requires within { at ≤ length bytes.now }
@@ -74,7 +100,7 @@ fn value_at(
         }
         return dictionary_at(bytes, at + 1, depth + 1, places, top);
     }
-    let (_, next) = string_at(bytes, at)?;
+    let (_, next) = text_at(bytes, at)?;
     Ok(next)
 }
 
@@ -85,7 +111,7 @@ fn item_at(
     bytes: &[u8],
     at: usize,
     depth: usize,
-    places: &mut [u16; MOST],
+    places: &mut [u16],
     top: usize,
 ) -> Result<usize, Bad>
     requires within { at ≤ length bytes.now }
@@ -112,7 +138,7 @@ fn list_at(
     bytes: &[u8],
     from: usize,
     depth: usize,
-    places: &mut [u16; MOST],
+    places: &mut [u16],
     top: usize,
 ) -> Result<usize, Bad>
     requires within { from ≤ length bytes.now }
@@ -136,7 +162,7 @@ fn dictionary_at(
     bytes: &[u8],
     from: usize,
     depth: usize,
-    places: &mut [u16; MOST],
+    places: &mut [u16],
     base: usize,
 ) -> Result<usize, Bad>
     requires within { from ≤ length bytes.now }
@@ -171,7 +197,7 @@ fn unsorted_at(
     from: usize,
     start: usize,
     depth: usize,
-    places: &mut [u16; MOST],
+    places: &mut [u16],
     base: usize,
     noted: usize,
 ) -> Result<usize, Bad>
@@ -184,7 +210,7 @@ fn unsorted_at(
     ensures reads { (os : List Open) (pairs : List (Pair Value)) → suc (length os) ≡ depth
         → Reached bytes.now from (Keyless os []) → FitsOpen os
         → Reached bytes.now start (Keyless os pairs) → FitsPairs os pairs
-        → (noted ≤ 1024 → Noted bytes.now (own base noted places.old) os (keys_of pairs))
+        → (noted ≤ length places.old → Noted bytes.now (own base noted places.old) os (keys_of pairs))
         → Scans bytes.now result (ReadsValue bytes.now from os) }
 {
     let mut at = start;
@@ -197,7 +223,7 @@ fn unsorted_at(
             }
         };
         top = note(places, top, at);
-        if top > MOST {
+        if top > places.len() {
             return searched_at(bytes, from, start, depth, places, top);
         }
         match item_at(bytes, behind, depth, places, top) {
@@ -218,7 +244,7 @@ fn judged(
     from: usize,
     start: usize,
     depth: usize,
-    places: &mut [u16; MOST],
+    places: &mut [u16],
     base: usize,
     top: usize,
     end: Result<usize, Bad>,
@@ -233,11 +259,11 @@ fn judged(
     ensures reads { (os : List Open) (pairs : List (Pair Value)) → suc (length os) ≡ depth
         → Reached bytes.now from (Keyless os []) → FitsOpen os
         → Reached bytes.now start (Keyless os pairs) → FitsPairs os pairs
-        → (top ≤ 1024 → AreKeys bytes.now (own base top places.old) os)
-        → (top ≤ 1024 → Differ bytes.now (own base top places.old) → Scans bytes.now end (ReadsValue bytes.now from os))
+        → (top ≤ length places.old → AreKeys bytes.now (own base top places.old) os)
+        → (top ≤ length places.old → Differ bytes.now (own base top places.old) → Scans bytes.now end (ReadsValue bytes.now from os))
         → Scans bytes.now result (ReadsValue bytes.now from os) }
 {
-    if top <= MOST {
+    if top <= places.len() {
         let keys = &places[base..top];
         if let Some(i) = first_twice(bytes, keys) {
             if i >= keys.len() {
@@ -260,7 +286,7 @@ fn searched_at(
     from: usize,
     start: usize,
     depth: usize,
-    places: &mut [u16; MOST],
+    places: &mut [u16],
     top: usize,
 ) -> Result<usize, Bad>
     requires order { from ≤ start }

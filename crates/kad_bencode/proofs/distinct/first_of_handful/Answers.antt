@@ -1,4 +1,4 @@
-use Rattle.std.proofs.Common.{arith, subst, sym, take}
+use Rattle.std.proofs.Common.{arith, subst, take}
 use Rattle.kad_bencode.specs.Filing.{IsNowhere}
 use Rattle.kad_bencode.proofs.Filing.{differ_next}
 use Rattle.kad_bencode.proofs.distinct.first_of_handful.Goals as goal

@@ -1,4 +1,4 @@
-use Rattle.std.proofs.Common.{arith, subst, take}
+use Rattle.std.proofs.Common.{arith, subst}
 use Rattle.std.proofs.lemmas.List.{take_all}
 use Rattle.kad_bencode.specs.Filing.{IsNowhere}
 use Rattle.kad_bencode.proofs.Filing.{nowhere_more}

@@ -7,6 +7,12 @@ returns-in-Some-clause-reads c t b a i l d e =
     let r = c.in-Some.ensures.reads a.place w in
     string_behind c.args.bytes.now t b c.args.at c.args.depth a a.place _ c.in-Some.next a.open_ones r.within r.reached
 
+pub returns-in-Some-two_end-clause-reads : goal.returns-in-Some-two_end-clause-reads
+returns-in-Some-two_end-clause-reads c t b a i l d e =
+    let w = awaits_string c.args.bytes.now t b c.args.at c.args.depth a (λ h. i) (λ h. l) (λ h. d) (λ h. e) in
+    let r = c.in-Some-two_end.ensures.reads a.place w in
+    string_behind c.args.bytes.now t b c.args.at c.args.depth a a.place _ c.in-Some-two_end.next a.open_ones r.within r.reached
+
 pub returns-in-Ok-clause-reads : goal.returns-in-Ok-clause-reads
 returns-in-Ok-clause-reads c t b a i l d e =
     let w = awaits_string c.args.bytes.now t b c.args.at c.args.depth a (λ h. i) (λ h. l) (λ h. d) (λ h. e) in

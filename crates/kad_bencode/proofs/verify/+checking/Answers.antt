@@ -1,8 +1,8 @@
-use Rattle.std.proofs.Common.{ℕ, List, ◌≡◌, ◌+◌, ◌++◌, ◌≤◌, take, get_or, nat_eq, sym, subst, [], ◌∷◌, refl, ◌∙◌, arith, inl, inr}
+use Rattle.std.proofs.Common.{ℕ, List, ◌≤◌, length, get_or, nat_eq, sym, subst, [], ◌∷◌, refl, ◌∙◌, arith, inl, inr}
 use Rattle.std.proofs.lemmas.Result.{err_from_is_err_and}
 use Rattle.kad_bencode.specs.Faults.{InList, InPair}
 use Rattle.kad_bencode.specs.Machine.{AsKey, AsValue}
-use Rattle.kad_bencode.proofs.Nested.{awaits_integer, integer_value, begun, too_deep, list_opened, dictionary_opened, opened_value, awaits_text, text_value, list_awaits, list_more, list_ends, PairsSoFar, pairs_await, key_twice, key_new, pairs_more, pairs_end}
+use Rattle.kad_bencode.proofs.Nested.{awaits_integer, integer_value, begun, too_deep, list_opened, dictionary_opened, opened_value, awaits_text, text_value, list_awaits, list_more, list_ends, pairs_await, key_twice, key_new, pairs_more, pairs_end}
 use Rattle.kad_bencode.proofs.Verifying.{handed, widened, are_pairs, up_to_more, next_key}
 use Rattle.kad_bencode.proofs.Said.{is_equal}
 use Rattle.std.proofs.lemmas.List.{take_all}
@@ -110,7 +110,7 @@ dictionary_at-pairs-preserved t c =
             up_to_more c.in_ok-key.key.now e.0.pairs c.in_ok-key.key.now v.tree n,
             λ few. noted_more c.args.bytes.now (own c.args.base c.pairs.top c.pairs.places) c.pairs.at os e.0
                 (e.2 (let o = c.note-top.ensures.order in omega (arith, few, o))) c.in_ok-key.key.now c.in_ok-key.behind c.pairs.invariant.within s v.tree _
-                (own_kept c.args.base c.note-top.result _ _ order c.in_ok-at.ensures.frame ∙ c.note-top.ensures.noted few c.args.base c.pairs.invariant.order),
+                (own_kept c.args.base c.note-top.result _ _ order c.in_ok-at.ensures.frame ∙ c.note-top.ensures.noted (omega (arith, few)) c.args.base c.pairs.invariant.order),
           );
     }
 
@@ -190,12 +190,12 @@ searched_at-returns-clause-reads t c os ps d r f g h =
 
 pub judged-returns-then-i-keys-clause-reads : goal.judged-returns-then-i-keys-clause-reads
 judged-returns-then-i-keys-clause-reads t c os ps d r f g h a e =
-    let few = c.if-top-le-MOST.true in
+    let few = c.if-top-places.true in
     e few (subst (Differ c.args.bytes.now) (take_all c.in-Some.i _ (let m = c.if-i-keys.true in omega (arith, m))) c.in-Some.ensures.differ)
 
 pub judged-returns-then-is_twice-clause-reads : goal.judged-returns-then-is_twice-clause-reads
 judged-returns-then-is_twice-clause-reads t c os ps d r f g h a e =
-    let few = c.if-top-le-MOST.true in
+    let few = c.if-top-places.true in
     let keys : List ℕ = own c.args.base c.args.top c.args.places.now in
     let w = c.is_twice.ensures.within c.if-is_twice.true in
     let k = a few c.in-Some.i (let m = c.if-i-keys.false in omega (arith, m)) c.in-Some.ensures.differ in
@@ -240,7 +240,7 @@ unsorted_at-loose-preserved t c =
       so_far = λ os ps d r f g h n few.
           let e = c.loose.invariant.so_far os ps d r f g h n (let o = c.note-top.ensures.order in omega (arith, few, o)) in
           let front : List ℕ = own c.args.base c.loose.top c.loose.places in
-          let all = own_kept c.args.base c.note-top.result _ _ order c.in-Ok-item_at.ensures.frame ∙ c.note-top.ensures.noted few c.args.base c.loose.invariant.order in (
+          let all = own_kept c.args.base c.note-top.result _ _ order c.in-Ok-item_at.ensures.frame ∙ c.note-top.ensures.noted (omega (arith, few)) c.args.base c.loose.invariant.order in (
             (λ df.
                 let dd = subst (Differ c.args.bytes.now) all df in
                 let s = e.0 (differ_front c.args.bytes.now front c.loose.at dd) in
@@ -268,7 +268,7 @@ unsorted_at-returns-in-Err-item_at-clause-frame t c =
 pub unsorted_at-returns-in-Err-item_at-clause-reads : goal.unsorted_at-returns-in-Err-item_at-clause-reads
 unsorted_at-returns-in-Err-item_at-clause-reads t c os ps d r f g h n =
     let order : c.args.base ≤ c.note-top.result = (let o = c.note-top.ensures.order in let i = c.loose.invariant.order in omega (arith, o, i)) in
-    let few : c.note-top.result ≤ 1024 = (let m = c.if-top-gt-MOST.false in omega (arith, m)) in
+    let few : c.note-top.result ≤ length c.loose.places = (let m = c.if-top-places.false in omega (arith, m)) in
     let e = c.loose.invariant.so_far os ps d r f g h n (let o = c.note-top.ensures.order in omega (arith, few, o)) in
     let front : List ℕ = own c.args.base c.loose.top c.loose.places in
     let all = own_kept c.args.base c.note-top.result _ _ order c.in-Err-item_at.ensures.frame ∙ c.note-top.ensures.noted few c.args.base c.loose.invariant.order in

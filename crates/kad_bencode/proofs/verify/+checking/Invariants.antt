@@ -39,7 +39,7 @@ invariant-dictionary_at-pairs l = record {
   within : l.at ≤ length l.bytes;
   order : l.base ≤ l.top;
   frame : take l.base l.places ≡ take l.base l.initial.places;
-  so_far : (os : List Open) → suc (length os) ≡ l.depth → Reached l.bytes l.from (Keyless os []) → FitsOpen os → (so : PairsSoFar l.bytes l.at os) × IsUpTo l.greatest (keys_of so.pairs) × (l.top ≤ 1024 → Noted l.bytes (own l.base l.top l.places) os (keys_of so.pairs));
+  so_far : (os : List Open) → suc (length os) ≡ l.depth → Reached l.bytes l.from (Keyless os []) → FitsOpen os → (so : PairsSoFar l.bytes l.at os) × IsUpTo l.greatest (keys_of so.pairs) × (l.top ≤ length l.places → Noted l.bytes (own l.base l.top l.places) os (keys_of so.pairs));
 }
 
 abbrev pub decreases-dictionary_at-pairs : goal.decreases-dictionary_at-pairs
@@ -72,7 +72,7 @@ invariant-unsorted_at-loose l = record {
   within : l.at ≤ length l.bytes;
   order : l.base ≤ l.top;
   frame : take l.base l.places ≡ take l.base l.initial.places;
-  so_far : (os : List Open) (pairs : List (Pair Value)) → suc (length os) ≡ l.depth → Reached l.bytes l.from (Keyless os []) → FitsOpen os → Reached l.bytes l.start (Keyless os pairs) → FitsPairs os pairs → (l.noted ≤ 1024 → Noted l.bytes (own l.base l.noted l.initial.places) os (keys_of pairs)) → l.top ≤ 1024 → (Differ l.bytes (own l.base l.top l.places) → (so : PairsSoFar l.bytes l.at os) × Listed l.bytes (own l.base l.top l.places) (keys_of so.pairs)) × AreKeys l.bytes (own l.base l.top l.places) os;
+  so_far : (os : List Open) (pairs : List (Pair Value)) → suc (length os) ≡ l.depth → Reached l.bytes l.from (Keyless os []) → FitsOpen os → Reached l.bytes l.start (Keyless os pairs) → FitsPairs os pairs → (l.noted ≤ length l.initial.places → Noted l.bytes (own l.base l.noted l.initial.places) os (keys_of pairs)) → l.top ≤ length l.places → (Differ l.bytes (own l.base l.top l.places) → (so : PairsSoFar l.bytes l.at os) × Listed l.bytes (own l.base l.top l.places) (keys_of so.pairs)) × AreKeys l.bytes (own l.base l.top l.places) os;
 }
 
 abbrev pub decreases-unsorted_at-loose : goal.decreases-unsorted_at-loose

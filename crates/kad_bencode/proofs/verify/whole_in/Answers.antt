@@ -3,7 +3,7 @@ use Rattle.std.proofs.lemmas.Result.{err_from_is_err_and}
 use Rattle.kad_bencode.specs.Spelling.{in_order}
 use Rattle.kad_bencode.proofs.Nested.{awaits_first, whole, trailing}
 use Rattle.kad_bencode.proofs.Verifying.{handed}
-use Rattle.kad_bencode.proofs.verify.whole.Goals as goal
+use Rattle.kad_bencode.proofs.verify.whole_in.Goals as goal
 
 pub returns-in_err-next : goal.returns-in_err-next
 returns-in_err-next c =
