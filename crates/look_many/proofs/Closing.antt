@@ -1,26 +1,13 @@
 -- What comes back once the three turns are closed, and where nothing was begun.
-use Rattle.std.proofs.Common.{◌≡◌, ℕ, ◌<◌, List, [], ◌∷◌, Option, Result, Ok, Err, IfOk, inl, refl, ap, ◌∙◌, All}
+use Rattle.std.proofs.Common.{◌≡◌, ◌<◌, List, [], Option, Result, Ok, Err, IfOk, inl, refl}
 use Rattle.std.specs.Prelude.{IfErr}
-use Rattle.std.proofs.lemmas.List.Elements.{All-head}
 use Rattle.kad_base.specs.declared.types.Event.{Event}
-use Rattle.kad_base.specs.declared.serial.Made.{Made}
-use Rattle.kad_base.specs.Serial.{left_by}
 use Rattle.kad_base.proofs.Grown.{grows_none}
 use Rattle.id_puzzles.specs.Drawn.{WordsState}
-use Rattle.turn_book.proofs.Ended.{none_made}
-use Rattle.turn_book.specs.Turns.{TurnState, Closed, all_fresh}
 use Rattle.contact_table.specs.TableState.{TableState}
-use Rattle.contact_table.specs.TableStep.{TableMay, TableStep, table_after}
-use Rattle.contact_table.specs.declared.calls.TableCall.{TableCall}
-use Rattle.contact_table.specs.declared.calls.TableReply.{TableReply}
-use Rattle.peer_store.specs.Peers.{PeersState, no_peers as empty_peers}
-use Rattle.peer_store.specs.PeersStep.{PeersMay, PeersStep, peers_after}
-use Rattle.item_store.specs.Items.{ItemsState, no_items as empty_items}
-use Rattle.item_store.specs.ItemSteps.{ItemMay, ItemStep, item_after}
 use Rattle.serve_crew.specs.Opening.{AreClosed, Opens}
 use Rattle.serve_crew.specs.declared.turns.Turns.{Turns}
 use Rattle.serve_crew.specs.declared.turns.Rows.{Rows}
-use Rattle.serve_crew.specs.Hands.{TablePass}
 use Rattle.lookup_crowd.specs.declared.seeker.ManyFault.{ManyFault}
 use Rattle.lookup_crowd.specs.declared.seeker.ManyFault.TheVariants.{NoMemory}
 use Rattle.look_many.specs.declared.found.Many.{Many}

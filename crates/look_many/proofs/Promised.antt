@@ -15,18 +15,13 @@ use Rattle.kad_base.specs.Outside.{Grows}
 use Rattle.kad_base.specs.Serial.{calls_of}
 use Rattle.kad_base.proofs.Grown.{grows_weaker}
 use Rattle.id_puzzles.specs.Drawn.{WordsState}
-use Rattle.turn_book.specs.Turns.{TurnState, Closed, fresh, mine}
+use Rattle.turn_book.specs.Turns.{TurnState, fresh, mine}
 use Rattle.contact_table.specs.TableState.{TableState}
-use Rattle.contact_table.specs.TableStep.{TableMay, TableStep, table_after}
 use Rattle.contact_table.specs.Told.{HasMemory, calls_in, seen_calls}
 use Rattle.contact_table.specs.declared.calls.TableCall.{TableCall}
 use Rattle.contact_table.specs.declared.calls.TableReply.{TableReply}
-use Rattle.peer_store.specs.Peers.{PeersState, no_peers as empty_peers}
-use Rattle.peer_store.specs.PeersStep.{PeersMay, PeersStep, peers_after}
 use Rattle.peer_store.specs.declared.calls.PeerCall.{PeerCall}
 use Rattle.peer_store.specs.declared.calls.PeerReply.{PeerReply}
-use Rattle.item_store.specs.Items.{ItemsState, no_items as empty_items}
-use Rattle.item_store.specs.ItemSteps.{ItemMay, ItemStep, item_after}
 use Rattle.item_store.specs.declared.calls.ItemCall.{ItemCall}
 use Rattle.item_store.specs.declared.calls.ItemReply.{ItemReply}
 use Rattle.claim_book.specs.declared.types.Setting.{Setting}

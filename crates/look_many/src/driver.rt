@@ -25,6 +25,7 @@ ghost use Rattle.look_many.specs.inner.Ends.{FoundBack, StoppedBack, task};
 use crate::finish::{Done, finish_all, gather};
 use crate::follow::{Log, follow_all};
 use crate::found::{Many, ManySetting};
+use crate::given::{Given, Wanted};
 use crate::job::Job;
 use crate::opening::{next_pass, open_books, seat_all, stack_up};
 use crate::plan::plan;
@@ -34,7 +35,7 @@ use contact_table::Table;
 use id_puzzles::Words;
 use kad_base::{Link, List, NoMemory, Numbers, Serial};
 use lookup_crowd::{Driver, FollowUp, ManyFault, Progress, Seeker, Site, all_legal, go_rounds};
-use node_serve::{Lasting, ServeSetting, end_of};
+use node_serve::{ServeSetting, end_of};
 use path_worker::PacedCheck;
 use seal_tags::{Seal, SealCheck};
 use serve_crew::{Desk, Rows, ServeWorker, Turns};
@@ -134,14 +135,6 @@ fn go<R: Threads + Wait + Sync, L: Link, C: PacedCheck + Sync, G: Seal + SealChe
         }
         Err(fault) => Err(fault),
     }
-}
-
-/// What is wanted: the jobs, how each lookup goes, and how long the node goes on.
-#[derive(Clone, Copy)]
-struct Wanted<'a> {
-    jobs: &'a [Job],
-    setting: ManySetting,
-    lasting: Lasting,
 }
 
 /// The room that the lookups need, taken before anything begins: their books, the last one's first; themselves; their passes,
@@ -369,31 +362,25 @@ fn work<R: Threads + Wait + Sync, L: Link, C: PacedCheck + Sync, G: Seal + SealC
 /// lookups settle at once after a round, each on a thread of its own. Strangers choose the contacts, so the hasher of the
 /// books' indexes is handed in; no answer depends on it.
 /// `Strays` comes with the 1,000,000th datagram for no lookup while a query is open, `LinkFault` where a receive failed.
-pub fn look_many<'a, R: Threads + Wait + Sync, L: Link, C: PacedCheck + Sync, G: Seal + SealCheck>(
-    rt: &'a R,
-    alloc: Global,
+pub fn look_many<R: Threads + Wait + Sync, L: Link, C: PacedCheck + Sync, G: Seal + SealCheck>(
+    given: &Given<R, C, G>,
     link: &mut L,
     words: &mut Words,
     table: Table,
-    server: &'a ServeSetting,
-    jobs: &[Job],
-    setting: &ManySetting,
-    lasting: Lasting,
-    check: &'a C,
-    seal: &'a G,
+    wanted: &Wanted,
     hasher: RandomState,
 ) -> (Table, Result<Many, ManyFault>)
-    requires setting { IsSetting server.now }
-    requires limits { IsWithinLimits setting.now }
-    requires small { server.now.k < 256 }
-    requires few { length jobs.now ≤ max_lookups }
-    requires carried { AllByRecursion MaySayOf jobs.now }
-    requires usable { All (IsUsable server.now.own) (contacts_of table) }
+    requires setting { IsSetting given.now.server.now }
+    requires limits { IsWithinLimits wanted.now.setting }
+    requires small { given.now.server.now.k < 256 }
+    requires few { length wanted.now.jobs.now ≤ max_lookups }
+    requires carried { AllByRecursion MaySayOf wanted.now.jobs.now }
+    requires usable { All (IsUsable given.now.server.now.own) (contacts_of table) }
     requires place { words.old.place < 2 ^ 59 }
-    ensures ok { IfOk result.1 (ManyLooked (G.accepted seal.now) (G.tag_of seal.now) server.now setting.now jobs.now
-        lasting table result.0 words.old words.new (L.told link.old) (L.told link.new)) }
-    ensures stopped { IfErr result.1 (ManyStopped (G.accepted seal.now) (G.tag_of seal.now) server.now setting.now
-        jobs.now lasting table result.0 words.old words.new (L.told link.old) (L.told link.new)) }
+    ensures ok { IfOk result.1 (ManyLooked (G.accepted given.now.seal.now) (G.tag_of given.now.seal.now) given.now.server.now wanted.now.setting wanted.now.jobs.now
+        wanted.now.lasting table result.0 words.old words.new (L.told link.old) (L.told link.new)) }
+    ensures stopped { IfErr result.1 (ManyStopped (G.accepted given.now.seal.now) (G.tag_of given.now.seal.now) given.now.server.now wanted.now.setting
+        wanted.now.jobs.now wanted.now.lasting table result.0 words.old words.new (L.told link.old) (L.told link.new)) }
     ensures link { IsErrOf result.1 ManyFault.LinkFault
         → Rose (L.recv_faults link.old) (L.recv_faults link.new) }
     ensures last { IsErrOf result.1 ManyFault.LinkFault
@@ -405,30 +392,25 @@ pub fn look_many<'a, R: Threads + Wait + Sync, L: Link, C: PacedCheck + Sync, G:
     ensures kept { L.kept link.new ≡ L.kept link.old }
 {
     let mut table = table;
-    let room = match take_room(alloc, &mut table, server, setting, jobs, hasher) {
+    let room = match take_room(given.alloc, &mut table, given.server, &wanted.setting, wanted.jobs, hasher) {
         Ok(room) => room,
         Err(NoMemory) => return (table, Err(ManyFault::NoMemory)),
     };
-    let roles = jobs.len() as u8 + 1;
-    let (turns, mut rows) = match Turns::open(alloc, table, roles, 1) {
+    let roles = wanted.jobs.len() as u8 + 1;
+    let (turns, mut rows) = match Turns::open(given.alloc, table, roles, 1) {
         Ok(opened) => opened,
         Err(TurnNoMemory { state }) => return (state, Err(ManyFault::NoMemory)),
     };
     let site = Site {
-        rt,
-        alloc,
+        rt: given.rt,
+        alloc: given.alloc,
         desk: Desk {
-            setting: server,
+            setting: given.server,
             turns: &turns,
         },
-        check,
-        seal,
+        check: given.check,
+        seal: given.seal,
     };
-    let wanted = Wanted {
-        jobs,
-        setting: *setting,
-        lasting,
-    };
-    let answer = work(&site, link, words, &wanted, &mut rows, room);
+    let answer = work(&site, link, words, wanted, &mut rows, room);
     (turns.close(rows), answer)
 }

@@ -6,6 +6,7 @@ mod driver;
 mod finish;
 mod follow;
 mod found;
+mod given;
 mod job;
 mod opening;
 mod plan;
@@ -13,5 +14,6 @@ mod serving;
 
 pub use driver::look_many;
 pub use found::{Many, ManySetting, One, Ones};
+pub use given::{Given, Wanted};
 pub use job::{Job, Jobs};
 pub use lookup_crowd::{FollowUp, ManyFault};

@@ -29,7 +29,7 @@ use id_puzzles::Words;
 use kad_base::{Bytes, Check, Contact, Family, Id, Link, NoMemory, Proof, Reports, Source};
 use kad_text::lines::LinesFault;
 use kad_words::{LookWords, NodeWords};
-use look_many::{Job, Jobs, Many, ManyFault, ManySetting, look_many};
+use look_many::{Given, Job, Jobs, Many, ManyFault, ManySetting, Wanted, look_many};
 use node_serve::{Lasting, ServeSetting};
 use node_tokens::Tokens;
 use path_worker::PacedCheck;
@@ -124,8 +124,8 @@ fn read_start<S: Source, C: Check, G: Seal + SealCheck>(
 }
 
 /// Does the jobs, while it answers queries, from this table on.
-fn look_all<R: Threads + Wait + Sync, L: Link, C: PacedCheck + Sync, G: Seal + SealCheck>(
-    rt: &R,
+fn look_all<'a, R: Threads + Wait + Sync, L: Link, C: PacedCheck + Sync, G: Seal + SealCheck>(
+    rt: &'a R,
     alloc: Global,
     look: &LookWords,
     lasting: Lasting,
@@ -135,7 +135,7 @@ fn look_all<R: Threads + Wait + Sync, L: Link, C: PacedCheck + Sync, G: Seal + S
     proofs: Reports,
     jobs: &[Job],
     link: &mut L,
-    call: &Call<'_, C, G>,
+    call: &Call<'a, C, G>,
 ) -> Result<Looked, ManyFault>
     requires ranges { IsInRange look.now }
     requires own { own ≡ own_of look.now.own call.now.random }
@@ -177,20 +177,19 @@ fn look_all<R: Threads + Wait + Sync, L: Link, C: PacedCheck + Sync, G: Seal + S
         per_address: look.per_address,
     };
     let mut words = Words::new(&call.random, FIRST_TX);
-    let (after, ended) = look_many(
+    let given = Given {
         rt,
         alloc,
-        link,
-        &mut words,
-        table,
-        &server,
+        server: &server,
+        check: call.check,
+        seal: call.seal,
+    };
+    let wanted = Wanted {
         jobs,
-        &setting,
+        setting,
         lasting,
-        call.check,
-        call.seal,
-        call.hasher,
-    );
+    };
+    let (after, ended) = look_many(&given, link, &mut words, table, &wanted, call.hasher);
     match ended {
         Ok(many) => Ok(Looked { table: after, many }),
         Err(fault) => Err(fault),

@@ -1,4 +1,4 @@
-use Rattle.std.proofs.Common.{◌≡◌, inr, subst, ◌∙◌}
+use Rattle.std.proofs.Common.{inr, subst, ◌∙◌}
 use Rattle.contact_table.specs.TableState.{TableState}
 use Rattle.serve_crew.specs.Opening.{Opens}
 use Rattle.look_many.specs.inner.Ends.{task}
@@ -17,7 +17,7 @@ returns-clause-ok g c =
     let w = c.work-answer in
     let turns = c.in-Ok-open.opened.0 in
     ok_looked
-    (task (g.G.SealCheck.accepted c.args.seal.now) (g.G.Seal.tag_of c.args.seal.now) c.args.server.now c.args.setting.now c.args.jobs.now c.args.lasting)
+    (task (g.G.SealCheck.accepted c.args.given.now.seal.now) (g.G.Seal.tag_of c.args.given.now.seal.now) c.args.given.now.server.now c.args.wanted.now.setting c.args.wanted.now.jobs.now c.args.wanted.now.lasting)
     turns w.new.rows c.args.table c.close.result (subst (λ (t : TableState). Opens t turns) c.take_room.ensures.table c.in-Ok-open.ensures.opens) c.close.ensures c.requires.limits c.requires.small c.args.words.now w.new.words (g.L.Link.told c.args.link.now) (g.L.Link.told w.new.link) w.result w.ensures.ok
 
 pub returns-clause-stopped : goal.returns-clause-stopped
@@ -25,5 +25,5 @@ returns-clause-stopped g c =
     let w = c.work-answer in
     let turns = c.in-Ok-open.opened.0 in
     err_stopped
-    (task (g.G.SealCheck.accepted c.args.seal.now) (g.G.Seal.tag_of c.args.seal.now) c.args.server.now c.args.setting.now c.args.jobs.now c.args.lasting)
+    (task (g.G.SealCheck.accepted c.args.given.now.seal.now) (g.G.Seal.tag_of c.args.given.now.seal.now) c.args.given.now.server.now c.args.wanted.now.setting c.args.wanted.now.jobs.now c.args.wanted.now.lasting)
     turns w.new.rows c.args.table c.close.result (subst (λ (t : TableState). Opens t turns) c.take_room.ensures.table c.in-Ok-open.ensures.opens) c.close.ensures c.requires.limits c.requires.small c.args.words.now w.new.words (g.L.Link.told c.args.link.now) (g.L.Link.told w.new.link) w.result w.ensures.stopped

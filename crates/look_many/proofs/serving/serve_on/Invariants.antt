@@ -1,4 +1,4 @@
-use Rattle.std.proofs.Common.{◌≡◌, [], ◌+◌, length, map, false, ◌≤◌}
+use Rattle.std.proofs.Common.{◌≡◌, [], length, map, false, ◌≤◌}
 use Rattle.std.specs.List.{AllZip}
 use Rattle.id_puzzles.specs.Drawn.{WordsState}
 use Rattle.serve_crew.specs.Hands.{SameHands}
