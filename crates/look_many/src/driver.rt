@@ -392,7 +392,14 @@ pub fn look_many<R: Threads + Wait + Sync, L: Link, C: PacedCheck + Sync, G: Sea
     ensures kept { L.kept link.new ≡ L.kept link.old }
 {
     let mut table = table;
-    let room = match take_room(given.alloc, &mut table, given.server, &wanted.setting, wanted.jobs, hasher) {
+    let room = match take_room(
+        given.alloc,
+        &mut table,
+        given.server,
+        &wanted.setting,
+        wanted.jobs,
+        hasher,
+    ) {
         Ok(room) => room,
         Err(NoMemory) => return (table, Err(ManyFault::NoMemory)),
     };

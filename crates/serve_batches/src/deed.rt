@@ -10,10 +10,8 @@ use std::marker::{Brand, PhantomData};
 use std::sync::Wait;
 use work_desk::{Deed, Doer};
 
-/// How many datagrams another thread is woken for. A tag costs about what waking does.
+/// How many datagrams another thread is woken for. Fewer are answered about as soon as it is awake, also where replies are tagged.
 const WORTH: usize = 8;
-
-const WORTH_SEALED: usize = 1;
 
 /// What is fixed while a node serves. Each call of a program picks it.
 pub(crate) trait Serving {
@@ -78,12 +76,7 @@ impl<'a, B: Serving, G: Seal> Leading<'a, B, G> {
 
 impl<'a, B: Serving, G: Seal> Doer<Shift, Way<B>> for Leading<'a, B, G> {
     fn is_worth(&self, shift: &Shift) -> bool {
-        let least = if self.setting.sealed {
-            WORTH_SEALED
-        } else {
-            WORTH
-        };
-        shift.given >= least
+        shift.given >= WORTH
     }
 
     fn work<R: Wait>(&mut self, rt: &R, shift: &mut Shift) {

@@ -3,7 +3,10 @@
 use crate::serve::trial::{Coming, Told, Trial, Wanted, plays};
 use id_puzzles::Sha1Check;
 use run_kit::{play_under, words};
+use std::random::RandomSource;
+use std::sync::Wait;
 use std::test::Fail;
+use std::thread::Threads;
 use trial_kit::{MeetingSeal, link_at};
 
 /// The node of ones serves by two workers for two receive calls, for four, and by eight for 45.
@@ -54,13 +57,13 @@ const TIMED: &[&str] = &[
 const WITH_5: &str =
     "received 1 replied 1\ntable ffffffffffffffffffffffffffffffffffffffff 8 1\nrow -\nlive 0000000000000000000000000000000000000005 127.0.0.1:7005 0\nsibling 0000000000000000000000000000000000000005 127.0.0.1:7005\nend\n";
 
-/// Two workers of a group whose key is 32 zero bytes, for two receive calls.
+/// Two workers of a group whose key is 32 zero bytes, for sixteen receive calls.
 const GROUPED: &[&str] = &[
     "serve",
     "--workers",
     "2",
     "--receives",
-    "2",
+    "16",
     "--own",
     "ffffffffffffffffffffffffffffffffffffffff",
     "--group",
@@ -185,21 +188,33 @@ fn a_failed_receive_ends_it_without_the_replies_of_its_batch(rt: HostRuntime) ->
     plays(&rt, FAILED)
 }
 
-/// The tags of both replies are made at once: each waits until it sees the other.
-#[test]
-fn two_workers_of_a_batch_are_at_work_at_once(rt: HostRuntime) -> Result<(), Fail> {
+/// How often two workers are tried: on a busy machine a thread may come when the batch is over.
+const TRIES: usize = 5;
+
+/// Serves a batch of which each of two workers has eight pings, for which a thread is woken. Whether all are answered, and the tag
+/// of a reply to the first ping and that of one to the second are made at once: each waits until it sees the other.
+fn are_at_work_at_once<R: AllocGlobal + RandomSource + Threads + Wait + Sync>(
+    rt: &R,
+) -> Result<bool, Fail> {
     let alloc = rt.alloc();
-    let link = link_at(
-        alloc,
-        &[(10, 7000, PING), (10, 7001, SECOND_PING)],
-        &[],
-        &[],
-    )?;
+    let mut pings = [(10, 7000, PING); 16];
+    for i in 8..16 {
+        pings[i] = (10, 7001, SECOND_PING);
+    }
+    let link = link_at(alloc, &pings, &[], &[])?;
     let words = words(alloc, GROUPED)?;
     let seal = MeetingSeal::new([0; 32], 2);
-    let played = play_under(&rt, &words, "", link, &Sha1Check, &seal)?;
-    assert_eq!(rt; played.text.as_str(), "received 2 replied 2\n");
-    assert!(rt; seal.is_met());
+    let played = play_under(rt, &words, "", link, &Sha1Check, &seal)?;
+    Ok(played.text.as_str() == "received 16 replied 16\n" && seal.is_met())
+}
+
+#[test]
+fn two_workers_of_a_batch_are_at_work_at_once(rt: HostRuntime) -> Result<(), Fail> {
+    let mut is_met = false;
+    for _ in 0..TRIES {
+        is_met = is_met || are_at_work_at_once(&rt)?;
+    }
+    assert!(rt; is_met);
     Ok(())
 }
 
