@@ -21,6 +21,24 @@ pub fn place(target: &Id, list: &[Contact], contact: &Contact) -> usize
     list.partition_point(|other| compare(target, other, contact).is_lt())
 }
 
+/// The same place, sought from the end: what comes among the k closest mostly comes near it.
+#[inline(always)]
+fn place_from_end(target: &Id, list: &[Contact], contact: &Contact) -> usize
+    requires { IsStrictlySortedBy (closeness target.now) list.now }
+    ensures within { result ≤ length list.now }
+    ensures count { result ≡ length (filter (λ other. is_lt
+        (closeness target.now other contact.now)) list.now) }
+{
+    let mut at = list.len();
+    while at > 0 {
+        if closer(target, &list[at - 1], contact) {
+            return at;
+        }
+        at -= 1;
+    }
+    at
+}
+
 /// Puts a contact in its place among the k closest, if it isn't there, and drops what is then past the first k.
 /// Takes no memory: there is room for k.
 pub fn put_closest(near: &mut Vec<Contact>, target: &Id, k: usize, contact: &Contact)
@@ -35,7 +53,7 @@ pub fn put_closest(near: &mut Vec<Contact>, target: &Id, k: usize, contact: &Con
     if is_past(target, near.as_slice(), k, contact) {
         return;
     }
-    let at = place(target, near.as_slice(), contact);
+    let at = place_from_end(target, near.as_slice(), contact);
     if at >= k {
         return;
     }

@@ -34,7 +34,7 @@ returns-then-at-k-clause-items c =
     let target = c.args.target.now in
     let S = c.args.near.now.items in
     let x = c.args.contact.now in
-    let placed : c.place-at.result ≡ place_in (closeness target) S x = at_place target S _ x _ c.requires.sorted c.as_slice-2.ensures.value c.place-at.ensures.count in
+    let placed : c.place_from_end-at.result ≡ place_in (closeness target) S x = at_place target S _ x _ c.requires.sorted c.as_slice-2.ensures.value c.place_from_end-at.ensures.count in
     let few : length S ≤ c.args.k = grind (arith, c.requires.few) in
     let far : c.args.k ≤ place_in (closeness target) S x = grind (arith, placed, c.if-at-k.true) in
     put_past (closeness target) c.args.k S x few far ∙ sym (closest_put target c.args.k S x c.requires.sorted)
@@ -44,7 +44,7 @@ returns-then-is_new-clause-items c =
     let target = c.args.target.now in
     let S = c.args.near.now.items in
     let x = c.args.contact.now in
-    let placed = at_place target S _ x _ c.requires.sorted c.as_slice-2.ensures.value c.place-at.ensures.count in
+    let placed = at_place target S _ x _ c.requires.sorted c.as_slice-2.ensures.value c.place_from_end-at.ensures.count in
     let new = new_there target S _ x _ _ c.as_slice-3.ensures.value placed c.if-is_new.ensures in
     put_there target c.args.k S _ x _ c.requires.sorted placed new c.insert_at.ensures.items
 
@@ -53,7 +53,7 @@ returns-then-is_new-clause-sorted c =
     let target = c.args.target.now in
     let S = c.args.near.now.items in
     let x = c.args.contact.now in
-    let placed = at_place target S _ x _ c.requires.sorted c.as_slice-2.ensures.value c.place-at.ensures.count in
+    let placed = at_place target S _ x _ c.requires.sorted c.as_slice-2.ensures.value c.place_from_end-at.ensures.count in
     let new = new_there target S _ x _ _ c.as_slice-3.ensures.value placed c.if-is_new.ensures in
     subst (IsStrictlySortedBy (closeness target)) (sym (put_there target c.args.k S _ x _ c.requires.sorted placed new c.insert_at.ensures.items))
     (closest_rises target c.args.k (S ++ x ∷ []))
@@ -63,6 +63,6 @@ returns-else-is_new-clause-items c =
     let target = c.args.target.now in
     let S = c.args.near.now.items in
     let x = c.args.contact.now in
-    let placed = at_place target S _ x _ c.requires.sorted c.as_slice-2.ensures.value c.place-at.ensures.count in
+    let placed = at_place target S _ x _ c.requires.sorted c.as_slice-2.ensures.value c.place_from_end-at.ensures.count in
     let old = new_there target S _ x _ _ c.as_slice-3.ensures.value placed c.if-is_new.ensures in
     put_old (closeness target) c.args.k S x (grind (arith, c.requires.few)) old ∙ sym (closest_put target c.args.k S x c.requires.sorted)
