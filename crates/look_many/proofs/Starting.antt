@@ -3,7 +3,7 @@ use Rattle.std.proofs.Common.{◌≡◌, ℕ, suc, ◌+◌, ◌*◌, ◌^◌, �
 use Rattle.std.specs.Prelude.{map}
 use Rattle.std.specs.List.{AllByRecursion, AllZip, range_with_len}
 use Rattle.look_many.specs.declared.job.Job.{Job}
-use Rattle.kad_base.specs.Limits.{max_paths, max_alpha, max_open}
+use Rattle.kad_base.specs.Limits.{max_lookups, max_paths, max_alpha, max_open}
 use Rattle.query_book.specs.declared.Query.{Query}
 use Rattle.turn_book.specs.Turns.{TurnState, fresh}
 use Rattle.contact_table.specs.TableState.{TableState}
@@ -16,7 +16,6 @@ use Rattle.lookup_core.proofs.Seeds.{seeds_stand, seeds_ask, seeds_settled, seed
 use Rattle.node_serve.specs.declared.setting.ServeSetting.{ServeSetting}
 use Rattle.lookup_crowd.specs.declared.seeker.Seeker.{Seeker}
 use Rattle.lookup_crowd.specs.Mine.{driven}
-use Rattle.lookup_crowd.specs.Errands.{max_lookups}
 use Rattle.lookup_crowd.specs.inner.Crowd.{Holding, NothingLeft, queries_of, asks_of, Stand}
 use Rattle.lookup_crowd.specs.inner.ManySteps.{IsReady, IsSeated}
 use Rattle.lookup_crowd.specs.inner.Going.{Begins}

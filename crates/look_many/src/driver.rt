@@ -10,7 +10,7 @@ ghost use Rattle.contact_table.specs.TableStep.{contacts_of};
 ghost use Rattle.node_serve.specs.Calls.{IsSetting};
 ghost use Rattle.serve_crew.specs.Hands.{SameHands};
 ghost use Rattle.serve_crew.specs.Opening.{AreEmpty, AreFresh, HaveAll, HaveRoles};
-ghost use Rattle.lookup_crowd.specs.Errands.{max_lookups};
+ghost use Rattle.kad_base.specs.Limits.{max_lookups};
 ghost use Rattle.lookup_crowd.specs.inner.Crowd.{LosesMore, standing};
 ghost use Rattle.lookup_crowd.specs.inner.ManySteps.{IsOfDesk, IsRunOut, IsSeated};
 ghost use Rattle.lookup_crowd.specs.inner.Going.{Begins, SameSeats};

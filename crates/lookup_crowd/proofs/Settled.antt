@@ -7,7 +7,7 @@ use Rattle.std.proofs.lemmas.Bool.{cases_lt}
 use Rattle.std.proofs.lemmas.List.{length-set, get_or-set_other, get_or_default}
 use Rattle.std.proofs.lemmas.Grind.{get_or-set_at}
 use Rattle.kad_base.specs.declared.types.Event.{Event}
-use Rattle.kad_base.specs.Limits.{max_paths, max_path_contacts}
+use Rattle.kad_base.specs.Limits.{max_lookups, max_paths, max_path_contacts}
 use Rattle.kad_base.proofs.Grown.{grows_weaker}
 use Rattle.id_puzzles.specs.Drawn.{WordsState}
 use Rattle.turn_book.specs.Turns.{TurnState}
@@ -25,7 +25,6 @@ use Rattle.serve_crew.specs.Hands.{Hands}
 use Rattle.lookup_crowd.specs.declared.seeker.Seeker.{Seeker}
 use Rattle.lookup_crowd.specs.declared.seeker.Progress.{Progress}
 use Rattle.lookup_crowd.specs.Mine.{Mine, driven}
-use Rattle.lookup_crowd.specs.Errands.{max_lookups}
 use Rattle.lookup_crowd.specs.Many.{Frame, Reading, nothing_read, begun}
 use Rattle.lookup_crowd.specs.inner.Crowd.{Holding, NothingLeft, Longer, asks_of, queries_of, KeepsMine, ManyShow, Advances, stand}
 use Rattle.lookup_crowd.specs.inner.ManySteps.{HasCounted, HasWords, IsReady, MayAskAll, IsSeated, SettlesSome, SettlesWhole}

@@ -1,5 +1,5 @@
--- How many lookups there are at most at the same time; and what they and the node that answers meanwhile do on what they share:
--- whom a journal notes as having answered, which words are drawn, and which calls are made.
+-- What lookups at the same time and the node that answers meanwhile do on what they share: whom a journal notes as having
+-- answered, which words are drawn, and which calls are made.
 use Rattle.std.specs.Prelude.{ℕ, ◌+◌, List, [], ◌∷◌, length}
 use Rattle.std.specs.List.{flat_map}
 use Rattle.kad_base.specs.declared.types.Contact.{Contact}
@@ -9,10 +9,6 @@ use Rattle.claim_book.specs.declared.types.Entry.TheVariants.{Note}
 use Rattle.contact_table.specs.declared.calls.TableCall.TheVariants.{Failed}
 use Rattle.contact_table.specs.declared.calls.TableReply.{TableReply}
 use Rattle.node_serve.specs.Calls.{Did, on_table}
-
--- the most lookups at the same time
-abbrev pub max_lookups : ℕ
-max_lookups = 16
 
 -- the contacts that a journal notes as having answered
 abbrev pub note_of : Entry → List Contact

@@ -19,16 +19,13 @@ ghost use Rattle.lookup_crowd.specs.inner.SettleSteps.{CanSettle, SettlesOn, Set
 use crate::seeker::Seeker;
 use claim_book::{Book, BookCall, BookReply, Checked};
 use contact_table::{Table, TableCall, TableReply};
-use kad_base::limits::MAX_PATHS;
+use kad_base::limits::{MAX_LOOKUPS, MAX_PATHS};
 use kad_base::{Check, Contact, NoMemory, Report, Serial};
 use path_worker::PacedCheck;
 use std::sync::Wait;
 use std::thread;
 use std::thread::Threads;
 use turn_book::{Pass, Turn};
-
-/// The most lookups at the same time.
-const MAX_LOOKUPS: usize = 16;
 
 /// Tells the table that the contact answered.
 fn notify_seen<R: Wait>(

@@ -3,7 +3,7 @@ use Rattle.std.specs.Prelude.{◌≡◌, ℕ, ◌<◌, ◌≤◌, List, [], ◌+
 use Rattle.std.specs.List.{All, AllByRecursion, AllZip}
 use Rattle.kad_base.specs.declared.types.Event.{Event}
 use Rattle.kad_base.specs.declared.serial.Made.{Made}
-use Rattle.kad_base.specs.Limits.{max_strays}
+use Rattle.kad_base.specs.Limits.{max_lookups, max_strays}
 use Rattle.id_puzzles.specs.Drawn.{WordsState}
 use Rattle.turn_book.specs.Turns.{mine}
 use Rattle.contact_table.specs.Told.{HasMemory, calls_in, seen_calls}
@@ -19,7 +19,7 @@ use Rattle.serve_crew.specs.Hands.{Hands, SamePass, SameHands}
 use Rattle.lookup_crowd.specs.declared.seeker.Seeker.{Seeker}
 use Rattle.lookup_crowd.specs.declared.seeker.ManyFault.{ManyFault}
 use Rattle.lookup_crowd.specs.declared.seeker.ManyFault.TheVariants.{Strays}
-use Rattle.lookup_crowd.specs.Errands.{noted, drawn_by, max_lookups}
+use Rattle.lookup_crowd.specs.Errands.{noted, drawn_by}
 use Rattle.lookup_crowd.specs.inner.Crowd.{Holding, IsLegal, NoneAsks, queries_of, Stand, Advances}
 use Rattle.lookup_crowd.specs.inner.ManySteps.{HasCounted, IsReady, MayAskAll, HasWords, Stops, EndsByForeign, RanOn}
 

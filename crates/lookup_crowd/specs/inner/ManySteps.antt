@@ -6,7 +6,7 @@ use Rattle.kad_base.specs.declared.types.Contact.{Contact}
 use Rattle.kad_base.specs.declared.types.Event.{Event}
 use Rattle.kad_base.specs.declared.types.Event.TheVariants.{Got, Sent, Unsent}
 use Rattle.kad_base.specs.declared.serial.Made.{Made}
-use Rattle.kad_base.specs.Limits.{max_strays, max_round_receives, max_open, max_paths, max_path_contacts}
+use Rattle.kad_base.specs.Limits.{max_lookups, max_strays, max_round_receives, max_open, max_paths, max_path_contacts}
 use Rattle.kad_base.specs.Outside.{Grows}
 use Rattle.kad_base.specs.Words.{word}
 use Rattle.kad_krpc.specs.Form.{form}
@@ -45,7 +45,7 @@ use Rattle.lookup_crowd.specs.declared.seeker.Seeker.{Seeker}
 use Rattle.lookup_crowd.specs.declared.seeker.Progress.{Progress}
 use Rattle.lookup_crowd.specs.declared.seeker.ManyFault.{ManyFault}
 use Rattle.lookup_crowd.specs.declared.seeker.ManyFault.TheVariants.{LinkFault}
-use Rattle.lookup_crowd.specs.Errands.{noted, max_lookups}
+use Rattle.lookup_crowd.specs.Errands.{noted}
 use Rattle.lookup_crowd.specs.Many.{Frame, Owed, Reading, Owes, WaitsUntil, IsForeign, goes_on, open_of}
 use Rattle.lookup_crowd.specs.Mine.{driven}
 use Rattle.lookup_crowd.specs.inner.Crowd.{whose, opens, Holding, IsLegal, NoneAsks, NothingLeft, Longer, DrivenOn, OnlyHeard, SameSeat, asks_of, queries_of, ManyShow, Ran, Stand, IsFrame, Advances}
