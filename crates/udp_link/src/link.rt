@@ -1,5 +1,5 @@
 //! The link: its socket, its moment and its faults.
-ghost use Rattle.std.specs.Prelude.{◌≡◌, ◌↔◌, ◌≤◌, ◌^◌, ◌<◌, length, None, IfOk, IfSome, IsTrue};
+ghost use Rattle.std.specs.Prelude.{ℕ, ◌≡◌, ◌↔◌, ◌≤◌, ◌^◌, ◌<◌, length, None, IfOk, IfSome, IsTrue};
 ghost use Rattle.std.specs.IoError.{error_kind};
 ghost use Rattle.kad_base.specs.Outside.{Arrives, came_at};
 ghost use Rattle.udp_link.specs.Waking.{IsWake};
@@ -141,22 +141,35 @@ impl<'a, R: Clock> UdpLink<'a, R> {
         Err(Failed)
     }
 
+    /// The oldest datagram of the room, if it has one.
+    #[inline(never)]
+    fn held(&mut self, buf: &mut [u8]) -> Result<Option<Came>, Failed>
+        ensures came { IfOk result (λ held. IfSome held
+            (λ came. (until : ℕ) → Arrives came until self.old.moment (length buf.old))) }
+        ensures ends { IfOk result (λ held. IfSome held (λ came. came_at came < 2 ^ 62)) }
+        ensures same { self.new ≡ self.old }
+    {
+        let Ok(at) = self.read_clock() else {
+            return Err(Failed);
+        };
+        match self.room.give(buf) {
+            Some((len, from)) => Ok(Some(Came::Packet { from, len, at })),
+            None => Ok(None),
+        }
+    }
+
     /// Gives the oldest datagram of the room, or if there is none what the socket gives.
     fn next(&mut self, buf: &mut [u8], until: u64) -> Result<Came, Failed>
         ensures came { IfOk result (λ came. Arrives came until self.old.moment (length buf.old)) }
         ensures ends { IfOk result (λ came. came_at came < 2 ^ 62) }
         ensures same { self.new ≡ self.old }
     {
-        if self.room.is_empty() {
-            return self.wait(buf, until);
+        if !self.room.is_empty() {
+            if let Some(came) = self.held(buf)? {
+                return Ok(came);
+            }
         }
-        let Ok(at) = self.read_clock() else {
-            return Err(Failed);
-        };
-        match self.room.give(buf) {
-            Some((len, from)) => Ok(Came::Packet { from, len, at }),
-            None => self.wait(buf, until),
-        }
+        self.wait(buf, until)
     }
 
     /// Counts a send, and takes what has come into the room if there were enough of them. Afterwards sends wait, as they

@@ -44,6 +44,7 @@ impl TimedSocket {
     }
 
     /// One receive, which waits so long and no longer, and not at all for `None`.
+    #[inline(always)]
     pub(crate) fn recv_from(
         &mut self,
         buf: &mut [u8],
