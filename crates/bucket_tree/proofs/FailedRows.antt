@@ -22,12 +22,6 @@ use Rattle.bucket_tree.specs.declared.node.Node.TheVariants.{Leaf, Fork'}
 use Rattle.bucket_tree.specs.Trees.{rows_of, IsUnder, IsShort, IsWholeRow, IsTree, path}
 use Rattle.bucket_tree.proofs.SeenRows.{leaf_covers}
 
-prefix_stays : (c : Contact) (row : RowState) (gone : Gone) (after : RowState) → RowFailed c row gone after → after.prefix ≡ row.prefix
-prefix_stays c row Kept after s = ap (λ (r : RowState). r.prefix) s.1
-prefix_stays c row Removed after s = ap (λ (r : RowState). r.prefix) s.2
-prefix_stays c row Replaced after s = ap (λ (r : RowState). r.prefix) s.1.after_is
-prefix_stays c row Unknown after s = ap (λ (r : RowState). r.prefix) s.1
-
 pub leaf_fails : (c : Contact) (at : ℕ) (node : Node) (row : _) (r r' : RowState) (gone : Gone) → node ≡ Leaf row → IsUnder (path at c.id) node → All IsShort (rows_of node) → r ≡ row.value → RowFailed c r gone r' → InItsRow c gone (rows_of node) (r' ∷ [])
 leaf_fails c at node row r r' gone e u s er f = record {
   front = [];

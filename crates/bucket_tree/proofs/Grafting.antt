@@ -31,9 +31,6 @@ states_end rows at le = drop_all at (states_of rows) (omega (arith, length-map r
 pub states_left : (rows : List Row) (at : ℕ) → at < length rows → 0 < length (drop at (states_of rows))
 states_left rows at lt = omega (arith, length-drop at (states_of rows), length-map rows state_of)
 
-pub states_none : (rows : List Row) (at : ℕ) → length rows ≤ at → length (drop at (states_of rows)) ≤ 0
-states_none rows at le = omega (arith, length-drop at (states_of rows), length-map rows state_of)
-
 -- the fault of a `?` is that of the call
 pub passed : {T U : Type 0} (r : Result T TableFault) (y x : TableFault) (P : Type 0) → r ≡ Err y → y ≡ x → (◌≡◌ {A = Result U TableFault} (Err x) (Err Unsound) → P) → r ≡ Err Unsound → P
 passed {T} {U} r y x P e same f is =

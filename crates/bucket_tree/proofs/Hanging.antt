@@ -40,9 +40,6 @@ two-first p low high l =
 pub head-same : (a b : RowState) (x y : List RowState) → a ∷ x ≡ b ∷ y → a ≡ b
 head-same a b x y e = cc
 
-pub tail-same : (a b : RowState) (x y : List RowState) → a ∷ x ≡ b ∷ y → x ≡ y
-tail-same a b x y e = cc
-
 -- a leaf isn't a fork
 apart : (p : List Bool) (row : RowState) (low high back rest : List RowState) → row.prefix ≡ p → Hangs (p ++ false ∷ []) low → row ∷ rest ≡ (low ++ high) ++ back → ⊥
 apart p row low high back rest is l e =

@@ -128,18 +128,6 @@ same_bit-unlike x y a b e f n = rw (← e, ← f) (go a b n)
     go false true n = refl
     go false false n = absurd cc
 
--- the zero identifier
-pub zeros-clear : (n i : ℕ) → bit (replicate {A = ℕ} n 0) i ≡ false
-zeros-clear n i =
-    let e = zero_at n (i / 8) in
-    let z = ap (λ (x : ℕ). bit_at x (7 - i % 8)) e ∙ bit_at-zero (7 - i % 8) in
-    ap (λ (x : ℕ). nat_eq x 1) z
-  where
-    zero_at : (n i : ℕ) → get_or {A = ℕ} (replicate n 0) i 0 ≡ 0
-    zero_at zero i = refl
-    zero_at (suc n) zero = refl
-    zero_at (suc n) (suc i) = zero_at n i
-
 -- a stored prefix
 pub len-is : (n : ℕ) (bytes : List ℕ) (v : List Bool) → bits_from n 0 bytes ≡ v → n ≡ length v
 len-is n bytes v e = sym (bits_from-length n 0 bytes) ∙ ap length e

@@ -63,21 +63,6 @@ pub open_any_is : (J : List Entry) (c : Contact) → among (open_any J) c ≡ (a
 unfolding open_any
 open_any_is J c = among_without (asked J) (answered J ++ failed J) c ∙ ap (λ b. among (asked J) c && not b) (among_more (answered J) (failed J) c)
 
-pub heard_not_open : (J : List Entry) (c : Contact) → among (answered J) c ≡ true → among (open_any J) c ≡ false
-heard_not_open J c h = open_any_is J c ∙ ap (λ b. among (asked J) c && not (b || among (failed J) c)) h ∙ neither (among (asked J) c)
-  where
-    neither : (b : Bool) → (b && false) ≡ false
-    neither true = refl
-    neither false = refl
-
-pub lost_not_open : (J : List Entry) (c : Contact) → among (failed J) c ≡ true → among (open_any J) c ≡ false
-lost_not_open J c h = open_any_is J c ∙ ap (λ b. among (asked J) c && not (among (answered J) c || b)) h ∙ neither (among (asked J) c) (among (answered J) c)
-  where
-    neither : (b d : Bool) → (b && not (d || true)) ≡ false
-    neither true true = refl
-    neither true false = refl
-    neither false d = refl
-
 asker_asked : (c : Contact) (J : List Entry) (p : ℕ) → slice_get (askers c J) 0 ≡ Some p → among (asked J) c ≡ true
 unfolding askers asked
 asker_asked c [] p h = absurd cc
@@ -87,21 +72,6 @@ asker_asked c (Ask n d ∷ J) p h =
       | false ↦ λ e g. or_right (same c d) (among (asked J) c) (asker_asked c J p g)
     ] refl h
 asker_asked c (e ∷ J) p h = asker_asked c J p h
-
--- who asked an open contact
-pub open_by : (J : List Entry) (c : Contact) (o : Option ℕ) → among (answered J) c ≡ false → among (failed J) c ≡ false → o ≡ slice_get (askers c J) 0 → MatchOption o (among (open_any J) c ≡ false) (λ p. (among (open_any J) c ≡ true) × (p ≡ asker c J))
-open_by J c None a f e = false_from_ne_true (among (open_any J) c) (λ h.
-    let by = asked_by_some c J (was (among (asked J) c) (not (among (answered J) c || among (failed J) c)) (sym (open_any_is J c) ∙ h)) in
-    let clash = by.1 in
-    absurd cc)
-  where
-    was : (a b : Bool) → (a && b) ≡ true → a ≡ true
-    was true b h = refl
-    was false b h = h
-open_by J c (Some p) a f e = (
-  open_any_is J c ∙ ap (λ b. b && not (among (answered J) c || among (failed J) c)) (asker_asked c J p (sym e)) ∙ ap (λ b. not (b || among (failed J) c)) a ∙ ap not f,
-  sym (get_or_from_slice_get (askers c J) 0 p 0 (sym e)),
-)
 
 first : (n : ℕ) (d : Contact) (J : List Entry) (c : Contact) (q : ℕ) → Some q ≡ slice_get (cond (same c d) (n ∷ []) [] ++ holders c J) 0 → (Some q ≡ slice_get (holders c J) 0 → among (path q J) c ≡ true) → among (on_path q n (d ∷ []) ++ path q J) c ≡ true
 first n d J c q e r =
@@ -132,7 +102,3 @@ some_holder (x ∷ J) c q e = some_holder J c q e
 
 pub no_holder : (J : List Entry) (c : Contact) → None ≡ slice_get (holders c J) 0 → among (took J) c ≡ false
 no_holder J c e = false_from_ne_true (among (took J) c) (λ h. let by = held_by_some c J h in let clash = by.1 in absurd cc)
-
-pub not_held : (J : List Entry) (c : Contact) (o : Option ℕ) → o ≡ slice_get (holders c J) 0 → ((q : ℕ) → o ≡ Some q → ⊥) → among (took J) c ≡ false
-not_held J c None e out = no_holder J c e
-not_held J c (Some q) e out = absurd (out q refl)

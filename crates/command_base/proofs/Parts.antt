@@ -19,11 +19,6 @@ front all n t u p q = (drop n all, ap (λ l. (t ++ l) ++ drop n all) q ∙ ap (�
 pub rest_whole : (all : List ℕ) (at : ℕ) → take (length all - at) (drop at all) ≡ drop at all
 rest_whole all at = ap (λ n. take n (drop at all)) (sym (length-drop at all)) ∙ take-length (drop at all)
 
--- more was read than may be
-pub too_much : (a c : Option (List ℕ)) (front : List ℕ) → Shrinks a c front → length front ≡ max_input + 1 → ReadsTooMuch a c
-too_much a None front h long = tt
-too_much a (Some rest) front h long = (front, long, h)
-
 -- no more was read than one byte more than may be
 pub at_most : (a c : Option (List ℕ)) (front : List ℕ) → Shrinks a c front → length front ≤ max_input + 1 → ReadsAtMost a c
 at_most a None front h few = tt

@@ -32,9 +32,3 @@ look_in_range target value look h =
       some_bits = bits.above;
       few_bits = bits.below;
     }
-
-pub table_in_range : (value : Values) (k bits : ℕ) → NumberOf k_option value k → NumberOf bits_option value bits → AreTableBounds k bits
-table_in_range value k bits is_k is_bits =
-    let live = within 1 20 8 (omega arith) (omega arith) _ k is_k in
-    let split = within 1 5 1 (omega arith) (omega arith) _ bits is_bits in
-    record { some_live = live.above; few_live = live.below; some_bits = split.above; few_bits = split.below }

@@ -182,7 +182,3 @@ unread_lawful ends ranges text nothing apart ended = record {
   vouches = λ none_ random unproved. unproved;
   no_link = λ random found links. true≢false (sym links);
 }
-
--- a text that can always be made
-pub made_lawful : (ranges : Type 0) (text : List ℕ → List ℕ → Type 0) → Lawful (unread [] ranges text (λ random. ⊥))
-made_lawful ranges text = unread_lawful [] ranges text (λ random. ⊥) (λ random written t nothing. nothing) (λ random nothing. absurd nothing)

@@ -276,9 +276,6 @@ module _ (n : ℕ) (held : List Contact) (m m' : BTreeMap Seat Contact) (c : Con
   pub seated-then : IsSeated n m' c
   seated-then = record { place = p; within = lt; sits = ap (λ (g : Host). sitter m' g p) (sym is) ∙ upd.1 }
 
-pub seated-before : (n : ℕ) (m : BTreeMap Seat Contact) (c : Contact) (h : Host) → h ≡ host c.addr → (i : ℕ) × (i < n) × (sitter m h i ≡ Some c) → IsSeated n m c
-seated-before n m c h is at = record { place = at.0; within = at.1; sits = ap (λ (g : Host). sitter m g at.0) (sym is) ∙ at.2 }
-
 -- a contact that has a seat isn't crowded out
 pub seated-free : (n : ℕ) (held : List Contact) (m : BTreeMap Seat Contact) (c : Contact) (h : Host) → h ≡ host c.addr → HasSeats n held m → (i : ℕ) × (i < n) × (sitter m h i ≡ Some c) → ¬ IsCrowded n held c
 seated-free n held m c h is seats at = some-free n held m c h at.0 is seats at.1 (λ x e has. one-contact x c (sitter m h at.0) e at.2)

@@ -24,9 +24,6 @@ same_itself c = ap is_eq (tied_itself contact_total c)
 pub same_back : (a b : Contact) → same a b ≡ same b a
 same_back a b = (eq_by_cmp_equiv contact_total).symm a b
 
-pub same_like : (a b c : Contact) → same a b ≡ true → same a c ≡ same b c
-same_like a b c e = (eq_by_cmp_equiv contact_total).congr a b c e
-
 pub address_exact : (a b : Ip) → address_bytes a ≡ address_bytes b → a ≡ b
 address_exact (V4 a) (V4 b) e = let h : a ≡ b = cc in ap V4 h
 address_exact (V4 a) (V6 b) e = let h : 4 ≡ 6 = ap (λ l. get_or l 0 0) e in absurd (omega (arith, h))

@@ -28,11 +28,3 @@ grows_weaker a (Some l) P Q g f = record { before = g.before; added = g.added; w
 pub grows_none : {A : Type 0} (a : Option (List A)) (P : List A → Type 0) → P [] → Grows a a P
 grows_none None P p = tt
 grows_none (Some l) P p = record { before = l; added = []; was = refl; sum_is = sym (append-nil l); holds = p }
-
--- two parts that were taken, one after the other
-pub shrinks_then : {A : Type 0} (a b c : Option (List A)) (f g : List A) → Shrinks a b f → Shrinks b c g → Shrinks a c (f ++ g)
-shrinks_then a b None f g h k = tt
-shrinks_then a None (Some r) f g h k = absurd cc
-shrinks_then {A} a (Some m) (Some r) f g h k =
-    let e : m ≡ g ++ r = cc in
-    h ∙ ap (λ (l : List A). Some (f ++ l)) e ∙ ap (λ (l : List A). Some l) (sym (append_assoc f g r))

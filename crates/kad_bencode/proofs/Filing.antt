@@ -246,15 +246,6 @@ pub front_kept : (base top : ℕ) (new old : List ℕ) → base ≤ top → take
     → take base new ≡ take base old
 front_kept base top new old h e = sym (take-take base top new h) ∙ ap (take base) e ∙ take-take base top old h
 
--- one more
-pub own_more : (base top at : ℕ) (places : List ℕ) → base ≤ top → top < length places
-    → own base (top + 1) (set places top at) ≡ own base top places ++ at ∷ []
-own_more base top at places h w =
-    own_front base (top + 1) (set places top at) (omega (arith, h))
-    ∙ ap (drop base) (take_more_set places top at w)
-    ∙ drop-append-le base (take top places) (at ∷ []) (let l = length-take-le top places (omega (arith, w)) in omega (arith, h, l))
-    ∙ ap (λ l. l ++ at ∷ []) (sym (own_front base top places h))
-
 -- ---- a handful of keys
 
 -- one place more, where the key isn't

@@ -12,12 +12,6 @@ use Rattle.kad_bencode.proofs.Folds.{is_plain-int, is_plain-text, is_plain-list,
 use Rattle.kad_bencode.proofs.Limits.{and_both}
 use Rattle.kad_bencode.proofs.Ordered.{once_ascending, ordered_same, put_all_ascending}
 
-pub integer_built : (n : ℤ) → is_i64 n ≡ true → IsWellBuilt (value.Int n)
-integer_built n h = record { plain = is_plain-int n ∙ h; ordered = in_order-int n }
-
-pub text_built : (s : List ℕ) → IsWellBuilt (value.Text s)
-text_built s = record { plain = is_plain-text s; ordered = in_order-text s }
-
 items_plain : (vs : List Value) → AllByRecursion IsWellBuilt vs → all_true (map is_plain vs) ≡ true
 items_plain [] h = refl
 items_plain (v ∷ vs) h = and_both (is_plain v) (all_true (map is_plain vs)) h.0.plain (items_plain vs h.1)

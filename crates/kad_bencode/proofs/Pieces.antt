@@ -29,10 +29,6 @@ pub shown_named : (text : List ℕ) (o : Option Value) → Shows (Some text) o �
 shown_named text None h = absurd h
 shown_named text (Some v) h = (names_itself text v h, ap Some (named_is text v h))
 
-pub shown_none : (o : Option Value) → Shows None o → None ≡ o
-shown_none None h = refl
-shown_none (Some v) h = absurd h
-
 -- ---- the first byte tells the kind
 
 abbrev pub first_byte : Value → ℕ

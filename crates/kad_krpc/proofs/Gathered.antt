@@ -16,11 +16,6 @@ pub first_none : {A : Type 0} (o : Option A) → o ≡ first_of o None
 first_none (Some x) = refl
 first_none None = refl
 
--- of two look-ups, the second at its own first
-pub first_then : {A : Type 0} (a b c : Option A) → first_of (first_of a b) c ≡ first_of a (first_of b c)
-first_then (Some x) b c = refl
-first_then None b c = refl
-
 either_then : (b : Bool) (v : Value) (rest : Option Value) → first_of (cond b (Some v) None) rest ≡ cond b (Some v) rest
 either_then true v rest = refl
 either_then false v rest = refl

@@ -165,7 +165,3 @@ members (layer.List vs) true e = absurd (let f : ⊥ = cc in f)
 members (layer.List vs) false e = refl
 members (layer.Dict ps) true e = refl
 members (layer.Dict ps) false e = absurd (let f : ⊥ = cc in f)
-
--- its keys have the values of its members
-pub looked_at : (v : Value) (b : Bool) → b ≡ is_some (dict_of v) → look_of v ≡ cond b (Some (member_of v)) None
-looked_at v b e = members (out-Value v) b (sym e)

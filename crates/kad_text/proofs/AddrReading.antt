@@ -138,10 +138,3 @@ port_utf8 text n fits e =
     subst IsUtf8 (sym all) (IsUtf8-from_ascii (decimal n) (IsAscii-from_all (decimal n) (λ k d lt. (decimal_visible n fits k d lt).1)))
 
 -- ---- both
-
-pub both_families : (text : List ℕ) (addr : Addr) → ((addr : Addr) → of_family Four addr.ip ≡ true → SpellsAddr text addr → ⊥) → ((addr : Addr) → of_family Six addr.ip ≡ true → SpellsAddr text addr → ⊥) → SpellsAddr text addr → ⊥
-both_families text addr four six s = go addr.ip refl
-  where
-    go : (ip : Ip) → addr.ip ≡ ip → ⊥
-    go (V4 bytes) e = four addr (ap (of_family Four) e) s
-    go (V6 bytes) e = six addr (ap (of_family Six) e) s

@@ -58,29 +58,6 @@ cased lead text bytes rest mark s =
     small (inl e) = omega (arith, e)
     small (inr e) = omega (arith, e)
 
-lower_mark : (lead : ℕ) → IsMark lead → to_ascii_lowercase lead ≡ lead
-lower_mark lead (inl e) = rw e refl
-lower_mark lead (inr e) = rw e refl
-
-pub group_read : (lead : ℕ) (text middle behind bytes : List ℕ) → IsMark lead → 5 ≤ length text → get_or text 0 0 ≡ lead → middle ≡ take 4 (drop 1 text) → behind ≡ drop 5 text → SpellsHex 2 middle bytes
-    → SpellsGroup lead (str_to_ascii_lowercase text) (get_or bytes 0 0 ∷ get_or bytes 1 0 ∷ []) (str_to_ascii_lowercase behind)
-group_read lead text middle behind bytes mark room first m b s =
-    let both : bytes ≡ get_or bytes 0 0 ∷ get_or bytes 1 0 ∷ [] = pair_of bytes s.long in
-    let shape : text ≡ lead ∷ (middle ++ behind) = five text room ∙ rw (first, ← m, ← b) refl in
-    let lower : str_to_ascii_lowercase text ≡ lead ∷ (encode_lower bytes ++ str_to_ascii_lowercase behind) =
-    ap str_to_ascii_lowercase shape ∙ ap₂ (λ (c : ℕ) (x : List ℕ). c ∷ x) (lower_mark lead mark) (map-append to_ascii_lowercase middle behind ∙ ap (λ (x : List ℕ). x ++ str_to_ascii_lowercase behind) s.digits) in
-    record {
-      long = refl;
-      fit = subst IsBytes both s.fit;
-      digits = lower ∙ ap (λ (x : List ℕ). lead ∷ (encode_lower x ++ str_to_ascii_lowercase behind)) both;
-    }
-  where
-    pair_of : (xs : List ℕ) → length xs ≡ 2 → xs ≡ get_or xs 0 0 ∷ get_or xs 1 0 ∷ []
-    pair_of [] e = absurd (omega arith)
-    pair_of (a ∷ []) e = absurd (omega arith)
-    pair_of (a ∷ b ∷ []) e = refl
-    pair_of (a ∷ b ∷ c ∷ xs) e = absurd (omega arith)
-
 -- ---- eight groups
 
 -- some groups were read, and the next begins with `lead`

@@ -28,9 +28,6 @@ pairs_are entries words pairs h = sym (pairs_back pairs) ∙ ap pairs_of (sym h.
 
 -- ---- whether they are plain
 
-pub no_words : IsPlain [] → ⊥
-no_words h = (let e = h.begins in cc)
-
 pub no_command : (texts rest : List Word) (first : Word) → texts ≡ first ∷ rest → ((n : CommandKind) → first ≡ kind_word n → ⊥) → IsPlain texts → ⊥
 no_command texts rest first cut other h = other h.kind (let e = h.begins in cc)
 

@@ -41,17 +41,6 @@ use Rattle.look_many.specs.inner.Seats.{IsSeekerFor, IsDone, IsHanded}
 
 -- ---- the plan
 
--- of one job more
-pub kept_next : (own : Id) (i : ℕ) (js : List Job) (ks : List Seeker) (d : Job) (e : Seeker) (old new all : List FollowUp) → i < length js → i < length ks → old ++ follows_kept own i (drop i js) (drop i ks) ≡ all → new ≡ old ++ map (by i) (owed_of own (get_or js i d) (get_or ks i e)) → new ++ follows_kept own (i + 1) (drop (i + 1) js) (drop (i + 1) ks) ≡ all
-kept_next own i js ks d e old new all lt lt' h is =
-    let here = map (by i) (owed_of own (get_or js i d) (get_or ks i e)) in
-    let js' = drop (i + 1) js in
-    let ks' = drop (i + 1) ks in
-    let after : i + 1 ≡ suc i = omega arith in
-    let apart : follows_kept own i (drop i js) (drop i ks) ≡ here ++ follows_kept own (suc i) js' ks' =
-    ap (λ l. follows_kept own i l (drop i ks)) (drop_more js i d lt) ∙ ap (follows_kept own i (get_or js i d ∷ js')) (drop_more ks i e lt') in
-    ap (λ l. l ++ follows_kept own (i + 1) js' ks') is ∙ append_assoc old here (follows_kept own (i + 1) js' ks') ∙ ap (λ n. old ++ (here ++ follows_kept own n js' ks')) after ∙ ap (λ l. old ++ l) (sym apart) ∙ h
-
 -- of all
 pub kept_all : (own : Id) (i : ℕ) (js : List Job) (ks : List Seeker) (old all : List FollowUp) → length js ≤ i → old ++ follows_kept own i (drop i js) (drop i ks) ≡ all → old ≡ all
 kept_all own i js ks old all le h = sym (ap (λ l. old ++ follows_kept own i l (drop i ks)) (drop_all i js le) ∙ append-nil old) ∙ h
@@ -181,7 +170,3 @@ kept_few own i (j ∷ jobs) (k ∷ ks) h =
     let both = length-append (map (by i) owed) (follows_kept own (suc i) jobs ks) in
     let more = kept_few own (suc i) jobs ks h.1 in
     omega (arith, small, one, few, same, both, more)
-
--- each lookup asks by the queries of its job, as it did where it began
-pub kinds_live : (server : ServeSetting) (setting : ManySetting) (table : TableState) (jobs : List Job) (olds news : List Seeker) → AllZip (IsSeekerFor server setting table) jobs olds → AllZip Lives olds news → AllZip IsOfKind jobs news
-kinds_live server setting table jobs olds news s l = zip_then (IsSeekerFor server setting table) Lives IsOfKind (λ j o n x y. ap (λ (q : Quest). q.kind) (y.quest ∙ x.quest)) jobs olds news s l

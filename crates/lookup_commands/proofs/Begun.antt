@@ -90,9 +90,6 @@ start_of kind look random source setting words table h = record {
 pub moved : (kind : AskKind) (look : LookWords) (random : List ℕ) (source : Shown ℕ) (setting : LookSetting) (words : WordsState) (table : TableState) (P : LookSetting → WordsState → Type 0) → Has kind look random source setting words table → P setting words → P (look_of kind look random) (drawn_of random)
 moved kind look random source setting words table P h p = subst (P (look_of kind look random)) h.words_are (subst (λ (s : LookSetting). P s words) h.setting_is p)
 
-pub limits_of : (kind : AskKind) (look : LookWords) (random : List ℕ) (source : Shown ℕ) (setting : LookSetting) (words : WordsState) (table : TableState) → Has kind look random source setting words table → IsWithinLimits setting
-limits_of kind look random source setting words table h = subst IsWithinLimits (sym h.setting_is) (within_limits kind look random h.range)
-
 pub usable_in_table : (kind : AskKind) (look : LookWords) (random : List ℕ) (source : Shown ℕ) (setting : LookSetting) (words : WordsState) (table : TableState) → Has kind look random source setting words table → All (IsUsable setting.own) (contacts_of table)
 usable_in_table kind look random source setting words table h =
     usable_told setting.own look.k look.bits 0 h.contacts table (admits_usable setting.own setting.family setting.policy h.reads.reports h.contacts h.reads.admits) h.told

@@ -49,19 +49,3 @@ own_heard quest c view reports old new own is after = record {
   hears_in = inl (own, refl);
   taken = λ e. absurd cc;
 }
-
--- one in another name
-pub other_lost : (quest : Quest) (c : Contact) (answer : Answer) (old new : BookState) → answer.id ≢ c.id → new ≡ added old (Lost (asker c old.journal) c WrongId) → HearsReply quest c (reply.Answer answer) old new taken.Lost
-other_lost quest c answer old new other after = record {
-  hears = record { entry = Lost (asker c old.journal) c WrongId; gives = inr (other, refl); after = after };
-  hears_in = inr (other, refl);
-  taken = λ e. absurd cc;
-}
-
--- an error message
-pub error_lost : (quest : Quest) (c : Contact) (code : _) (old new : BookState) → new ≡ added old (Lost (asker c old.journal) c (Error code)) → HearsReply quest c (reply.Error code) old new taken.Lost
-error_lost quest c code old new after = record {
-  hears = record { entry = Lost (asker c old.journal) c (Error code); gives = refl; after = after };
-  hears_in = refl;
-  taken = λ e. absurd cc;
-}

@@ -23,23 +23,3 @@ soonest_of (Some d) (q ∷ qs) oldest least none =
       one = subst (λ n. Contains (map (λ (x : Query). x.deadline) (q ∷ qs)) n) (sym same) (in_first q.deadline (map (λ (x : Query). x.deadline) qs));
       least = least_map d (q ∷ qs) (recursion_from_All (λ (x : Query). d ≤ x.deadline) (q ∷ qs) least);
     }
-
--- a receive that begins a round waits to the earliest deadline, and any other for nothing
-pub waits_first : (n moment until : ℕ) (deadlines : List ℕ) → n ≡ 0 → IsEarliest deadlines until → WaitsUntil n moment deadlines until
-waits_first n moment until deadlines is h = subst (λ k. WaitsUntil k moment deadlines until) (sym is) h
-
-pub waits_later : (n moment : ℕ) (deadlines : List ℕ) → n ≢ 0 → WaitsUntil n moment deadlines moment
-waits_later zero moment deadlines ne = absurd (ne refl)
-waits_later (suc n) moment deadlines ne = refl
-
--- the round goes on while a query is open, to the 32nd receive
-pub round_goes_on : (n d : ℕ) (qs : List Query) → n + 1 < max_round_receives → IsSoonest (Some d) qs → n + 1 ≡ goes_on n (length qs)
-round_goes_on n d [] lt is = absurd (none_in d is.one)
-round_goes_on n d (q ∷ qs) lt is = grind (arith, nat_tests)
-
-pub round_ends : (n d : ℕ) (qs : List Query) → max_round_receives ≤ n + 1 → IsSoonest (Some d) qs → 0 ≡ goes_on n (length qs)
-round_ends n d [] le is = refl
-round_ends n d (q ∷ qs) le is = grind (arith, nat_tests)
-
-pub round_empty : (n : ℕ) (qs : List Query) → IsSoonest None qs → 0 ≡ goes_on n (length qs)
-round_empty n qs is = sym (ap (λ l. goes_on n (length l)) is)

@@ -71,9 +71,6 @@ ran_lost old new c t = record { errands = losing c t.reply ∷ []; grew = t.grew
 pub replied : (tags : Tags) (server : ServeSetting) (from : Addr) (bytes : List ℕ) (at n : ℕ) (out : List ℕ) (old new : Hands) → ServeAnswers tags server from bytes at (answered.Reply n) out old new → SameHands old new → Answers tags server from bytes at (owed_in (Some n) from out) old new
 replied tags server from bytes at n out old new h same = record { did = h.did; owes = (refl, h.answer.1); grew = h.grew; same = same }
 
-pub not_replied : (tags : Tags) (server : ServeSetting) (from : Addr) (bytes : List ℕ) (at : ℕ) (out : List ℕ) (old new : Hands) → ServeAnswers tags server from bytes at answered.Silent out old new → SameHands old new → Answers tags server from bytes at (owed_in None from out) old new
-not_replied tags server from bytes at out old new h same = record { did = h.did; owes = h.answer; grew = h.grew; same = same }
-
 -- there was no memory to go on
 pub not_answered : (tags : Tags) (server : ServeSetting) (from : Addr) (bytes : List ℕ) (at : ℕ) (out : List ℕ) (old new : Hands) → ServeAnswers tags server from bytes at answered.NoMemory out old new → RanOn old new
 not_answered tags server from bytes at out old new h = (h.did, h.grew)

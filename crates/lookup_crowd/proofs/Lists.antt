@@ -34,10 +34,6 @@ all_more P i xs d lt h one = subst (AllByRecursion P) (sym (take_more xs i d lt)
 pub all_taken : {A : Type 0} (P : A → Type 0) (i : ℕ) (xs : List A) → length xs ≤ i → AllByRecursion P (take i xs) → AllByRecursion P xs
 all_taken P i xs le h = subst (AllByRecursion P) (take_all i xs le) h
 
--- a list taken apart at a place
-pub apart_at : {A : Type 0} (xs : List A) (n : ℕ) (d : A) → n < length xs → xs ≡ take n xs ++ get_or xs n d ∷ drop (suc n) xs
-apart_at xs n d lt = split_at xs n (get_or xs n d) (slice_get-get_or xs n d lt)
-
 pub none_front : {A : Type 0} (xs ys : List A) → xs ++ ys ≡ [] → xs ≡ []
 none_front [] ys e = refl
 none_front (x ∷ xs) ys e = absurd cc

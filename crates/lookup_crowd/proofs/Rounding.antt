@@ -57,9 +57,6 @@ longer_then (o ∷ olds) [] news g h = absurd g
 longer_then (o ∷ olds) (m ∷ mids) [] g h = absurd h
 longer_then (o ∷ olds) (m ∷ mids) (n ∷ news) g h = (longer_one o m n g.0 h.0, longer_then olds mids news g.1 h.1)
 
-pub received_first : (old new : List Seeker) (progress progress' : Progress) → Received true old new progress progress' → progress.moment ≤ progress'.moment → ReceivedAll old new progress progress'
-received_first old new progress progress' r later = record { holds = r.holds; longer = r.longer; only_heard = r.only_heard; driven_on = r.driven_on; seats = r.seats; counted = r.counted; later = later; left = (let l = r.left in omega (arith, l)); few_foreign = r.few_foreign refl }
-
 pub received_next : (old mid new : List Seeker) (progress between progress' : Progress) → ReceivedAll old mid progress between → Received true mid new between progress' → between.moment ≤ progress'.moment → ReceivedAll old new progress progress'
 received_next old mid new progress between progress' a r later = record { holds = r.holds; longer = longer_then old mid new a.longer r.longer; only_heard = all_then old mid new a.only_heard r.only_heard; driven_on = driven_then old mid new a.driven_on r.driven_on; seats = seats_then old mid new a.seats r.seats; counted = r.counted; later = (let before = a.later in omega (arith, before, later)); left = (let l = r.left in let m = a.left in omega (arith, l, m)); few_foreign = r.few_foreign refl }
 

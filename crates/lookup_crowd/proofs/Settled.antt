@@ -96,12 +96,6 @@ settled_hold [] (l ∷ ls) s = absurd s
 settled_hold (k ∷ ks) [] s = absurd s
 settled_hold (k ∷ ks) (l ∷ ls) s = (s.0.holds, settled_hold ks ls s.1)
 
-pub settled_seats : (tables : TurnState TableState) (ks ls : List Seeker) → AllByRecursion (IsSeated tables) ks → AllZip SettlesSome ks ls → AllByRecursion (IsSeated tables) ls
-settled_seats tables [] [] h s = tt
-settled_seats tables [] (l ∷ ls) h s = absurd s
-settled_seats tables (k ∷ ks) [] h s = absurd s
-settled_seats tables (k ∷ ks) (l ∷ ls) h s = (s.0.same.turn ∙ h.0, settled_seats tables ks ls h.1 s.1)
-
 one_asks : (k l : Seeker) → SettlesSome k l → length (asked l.lookup.book.journal) ≡ length (asked k.lookup.book.journal)
 one_asks k l s = ap length (ap asked s.journal ∙ asked_same k.lookup.book.journal s.more s.none_driven)
 
@@ -225,6 +219,3 @@ settling_next i old now d after h lt s =
 
 pub settling_can : (tables : TurnState TableState) (i : ℕ) (old now : List Seeker) (d : Seeker) → SettlingTo i old now → i < length old → All (CanSettle tables) old → CanSettle tables (get_or now i d)
 settling_can tables i old now d h lt can = subst (CanSettle tables) (sym (h.left i d (omega arith))) (can i d lt)
-
-pub settling_done : (i : ℕ) (old now : List Seeker) → SettlingTo i old now → length old ≤ i → EachSettles old now
-settling_done i old now h le j d lt = h.done j d (omega (arith, le, lt))

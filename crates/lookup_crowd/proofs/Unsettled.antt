@@ -12,15 +12,6 @@ use Rattle.lookup_crowd.specs.inner.SettleSteps.{HasSome, SeveralHaveSome}
 abbrev pub NoneHas : ℕ → List Entry → Type 0
 NoneHas n J = (p : ℕ) → p < n → unsettled p J ≡ []
 
-pub none_has_more : (n : ℕ) (J : List Entry) → NoneHas n J → unsettled n J ≡ [] → NoneHas (n + 1) J
-none_has_more n J h here p lt = elim (cases_lt p n) [
-  | inl less ↦ h p less
-  | inr not_less ↦ (let is : p ≡ n = omega (arith, lt, not_less) in ap (λ m. unsettled m J) is ∙ here)
-]
-
-pub some_here : (n : ℕ) (J : List Entry) → n < max_paths → unsettled n J ≢ [] → HasSome J
-some_here n J lt left = record { path = n; within = lt; left = left }
-
 pub none_here : (n : ℕ) (J : List Entry) → max_paths ≤ n → NoneHas n J → ¬ HasSome J
 none_here n J le none h = h.left (none h.path (let w = h.within in omega (arith, w, le)))
 
@@ -87,10 +78,6 @@ idle_next some n old now d same h here = idle_more some n old d h (subst (λ l. 
 -- the first that has something
 pub busy_next : (n : ℕ) (old now : List Seeker) (d : Seeker) → now ≡ old → n < length old → AtMostOne false n old → HasSome (get_or now n d).lookup.book.journal → AtMostOne true (n + 1) old
 busy_next n old now d same lt h here = busy_first n old d lt h (subst (λ l. HasSome (get_or l n d).lookup.book.journal) same here)
-
--- the second
-pub busy_twice : (n : ℕ) (old now : List Seeker) (d : Seeker) → now ≡ old → n < length old → AtMostOne true n old → HasSome (get_or now n d).lookup.book.journal → SeveralHaveSome old
-busy_twice n old now d same lt h here = busy_second n old d lt h (subst (λ l. HasSome (get_or l n d).lookup.book.journal) same here)
 
 -- at most one is not more than one
 pub not_several : (some : Bool) (n : ℕ) (ks : List Seeker) → length ks ≤ n → AtMostOne some n ks → ¬ SeveralHaveSome ks

@@ -51,17 +51,6 @@ expires_next at i old now d after h g k x lt e same ran =
           (ran_then h g k [] (all_lapsed at (take i old)) [] (lapsed at one) x.same x.ran ran));
     }
 
-pub expired_all : (at i : ℕ) (old now : List Seeker) (h g : Hands) → ExpiringTo at i old now h g → length old ≤ i → AllZip (Expires at) old now
-expired_all at i old now h g x le =
-    let le' : length now ≤ i = (let len = x.len in omega (arith, le, len)) in
-    subst (λ l. AllZip (Expires at) l now) (take_all i old le) (subst (AllZip (Expires at) (take i old)) (take_all i now le') x.done)
-
-pub ran_all : (at i : ℕ) (old now : List Seeker) (h g : Hands) → ExpiringTo at i old now h g → length old ≤ i → Ran h g [] (all_lapsed at old)
-ran_all at i old now h g x le = subst (λ l. Ran h g [] (all_lapsed at l)) (take_all i old le) x.ran
-
-pub next_holds : (i : ℕ) (old now : List Seeker) (d : Seeker) → AllByRecursion Holding old → length now ≡ length old → i < length old → drop i now ≡ drop i old → Holding (get_or now i d)
-next_holds i old now d h len lt left = subst Holding (sym (next_same i old now d len lt left)) (all_at Holding old i d h lt)
-
 -- ---- the earliest deadline
 
 earlier : (a b : ℕ) (xs ys : List ℕ) → IsEarliest xs a → IsEarliest ys b → IsEarliest (xs ++ ys) (min a b)
@@ -86,6 +75,3 @@ pub soonest_next : (a b : Option ℕ) (i : ℕ) (ks : List Seeker) (k : Seeker) 
 soonest_next a b i ks k lt is h here =
     subst (λ l. IsSoonest (sooner_of a b) (queries_of l)) (sym (take_more ks i k lt ∙ ap (λ (x : Seeker). take i ks ++ x ∷ []) (sym is)))
     (subst (IsSoonest (sooner_of a b)) (flat_map_more (λ (x : Seeker). x.lookup.queries) [] (take i ks) k) (soonest_both a b (queries_of (take i ks)) k.lookup.queries h here))
-
-pub soonest_all : (a : Option ℕ) (i : ℕ) (ks : List Seeker) → length ks ≤ i → IsSoonest a (queries_of (take i ks)) → IsSoonest a (queries_of ks)
-soonest_all a i ks le h = subst (λ l. IsSoonest a (queries_of l)) (take_all i ks le) h

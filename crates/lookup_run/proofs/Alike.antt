@@ -201,10 +201,6 @@ walk_alike g J K s t s' t' (e ∷ es) plain hs ht a j k =
 
 -- ---- the last stray
 
-apart_walk : (g : Given) (J : List Entry) (s t : Seen) (es : List Event) → Apart s.queries → TellsFrom g J s es t → Apart t.queries
-apart_walk g J s t [] h k = subst (λ (x : Seen). Apart x.queries) (sym k) h
-apart_walk g J s t (e ∷ es) h k = apart_walk g J k.0 t es (apart_gives g J s k.0 e h k.1) k.2
-
 -- the last event of a walk
 pub record LastOf (g : Given) (J : List Entry) (s t : Seen) (es : List Event) (e : Event) : Type 0 where
   pub mid : Seen

@@ -353,15 +353,3 @@ ends_of scheduling look accepts words words' table table' book moment begun_ wor
       few = few_told scheduling look accepts words table told words' work look.paths look.paths told' over.keeps.few_strays along;
       never = λ plain. never_told scheduling look accepts words table told words' work look.paths look.paths told' plain over.keeps.few_strays along;
     }
-
-pub ok_three : {T F : Type 0} (r : Result T F) (P Q R S : T → Type 0) → IfOk r P → IfOk r Q → IfOk r R → ((x : T) → P x → Q x → R x → S x) → IfOk r S
-ok_three (Ok x) P Q R S a b c k = k x a b c
-ok_three (Err e) P Q R S a b c k = tt
-
-pub ok_any : {T F : Type 0} (r : Result T F) (X : Type 0) → X → IfOk r (λ _. X)
-ok_any (Ok x) X h = h
-ok_any (Err e) X h = tt
-
-pub err_any : {T F : Type 0} (r : Result T F) (X : Type 0) → X → IfErr r (λ _. X)
-err_any (Ok x) X h = tt
-err_any (Err e) X h = h

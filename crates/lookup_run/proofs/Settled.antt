@@ -94,9 +94,6 @@ ran_then t u v h k = record {
 ran_after : (scheduling : Scheduling) (calls : List Told) (t u v : TableState) → TableToldBy scheduling calls t u → TableRan u v → TableRan t v
 ran_after scheduling calls t u v h k = ran_then t u v (record { run = h.run; is_run = h.is_run; leaves = h.leaves }) k
 
-pub ran_by : (p : ℕ) (old new : LookupState) → Settling p old.lookup.book new.lookup.book old.table new.table → TableRan old.table new.table
-ran_by p old new h = record { run = h.run; is_run = h.is_run; leaves = h.leaves }
-
 -- ---- what the events show
 
 -- such entries may stand behind what the first b paths settled, and are of the first b' paths

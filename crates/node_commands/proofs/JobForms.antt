@@ -142,15 +142,8 @@ untexted word line digits e u id f =
 
 -- ---- where an announcement is read
 
--- what follows the word
-abbrev pub SpellsAnnounce : List ℕ → Id → ℕ → Type 0
-SpellsAnnounce text key port = IsAnnounceLine (codes "announce " ++ text) key port
-
 announce_rest : (line rest : List ℕ) (key : Id) (port : ℕ) → line ≡ codes "announce " ++ rest → (f : IsAnnounceLine line key port) → rest ≡ f.digits ++ (codes " " ++ f.number)
 announce_rest line rest key port e f = append_cancel_left (codes "announce ") rest (f.digits ++ (codes " " ++ f.number)) (sym e ∙ f.spelled)
-
-pub unannounced : (line : List ℕ) → ((rest : List ℕ) → line ≢ codes "announce " ++ rest) → (key : Id) (port : ℕ) → ¬ IsAnnounceLine line key port
-unannounced line none_ key port f = none_ (f.digits ++ (codes " " ++ f.number)) f.spelled
 
 number_ascii : (text : List ℕ) (port : ℕ) → SpellsNumber 0 65535 text port → All (λ c. c < 128) text
 number_ascii text port s =
@@ -187,16 +180,10 @@ is_announce line rest digits number key port e cut k p = record {
 put_cut : (line digits : List ℕ) (key : Id) (v : List ℕ) → line ≡ codes "put " ++ digits → IsPutLine line key v → SpellsBytes digits v
 put_cut line digits key v e f = subst (λ (l : List ℕ). SpellsBytes l v) (append_cancel_left (codes "put ") f.digits digits (sym f.spelled ∙ e)) f.spells_value
 
-pub unput : (line : List ℕ) → ((rest : List ℕ) → line ≢ codes "put " ++ rest) → (key : Id) (v : List ℕ) → ¬ IsPutLine line key v
-unput line none_ key v f = none_ f.digits f.spelled
-
 pub put_text : (line digits : List ℕ) → line ≡ codes "put " ++ digits → (IsUtf8 digits → ⊥) → (key : Id) (v : List ℕ) → ¬ IsPutLine line key v
 put_text line digits e u key v f =
     let s = put_cut line digits key v e f in
     u (IsUtf8-from_ascii digits (IsAscii-from_all digits (ascii_of digits (hex_visible (length v) digits v s))))
-
-pub put_no_hex : (line digits text : List ℕ) → line ≡ codes "put " ++ digits → text ≡ digits → (((bytes : List ℕ) × SpellsBytes text bytes) → ⊥) → (key : Id) (v : List ℕ) → ¬ IsPutLine line key v
-put_no_hex line digits text e same none_ key v f = none_ (v, subst (λ (l : List ℕ). SpellsBytes l v) (sym same) (put_cut line digits key v e f))
 
 pub put_no_item : (line digits text v : List ℕ) → line ≡ codes "put " ++ digits → text ≡ digits → SpellsBytes text v → (IsItem v → ⊥) → (key : Id) (w : List ℕ) → ¬ IsPutLine line key w
 put_no_item line digits text v e same s none_ key w f =
@@ -213,14 +200,6 @@ is_put line digits text v key e same s item is = record {
 }
 
 -- ---- which form it is
-
-pub no_form : (line : List ℕ) → ((id : Id) → ¬ NamesId (codes "find ") line id) → ((id : Id) → ¬ NamesId (codes "peers ") line id) → ((id : Id) → ¬ NamesId (codes "get ") line id)
-    → ((key : Id) (port : ℕ) → ¬ IsAnnounceLine line key port) → ((key : Id) (v : List ℕ) → ¬ IsPutLine line key v) → (job : Job) → ¬ IsJobLine line job
-no_form line find peers get announce put (Find target) f = find target f
-no_form line find peers get announce put (Peers key) f = peers key f
-no_form line find peers get announce put (Announce key port) f = announce key port f
-no_form line find peers get announce put (Get key) f = get key f
-no_form line find peers get announce put (Put key v) f = put key v f
 
 -- ---- what a job has to say may stand in a message
 

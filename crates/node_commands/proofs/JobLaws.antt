@@ -170,13 +170,7 @@ names_end input reports jobs n e r =
     let all : take n input ≡ input = take_all n input (rw (e, length-enumerate_from) (omega arith)) in
     rw all at r
 
-pub none_named : Naming [] [] []
-none_named = record { said = []; each = tt; reports_are = refl; jobs_are = refl; few = omega arith }
-
 -- ---- what is bad behind others
-
-pub never_said : (jobs : List Job) (line : List ℕ) → ((said : InputLine) → ¬ Says line said) → IsBadBehind jobs line
-never_said jobs line none_ said says = absurd (none_ said says)
 
 pub one_too_many : (jobs : List Job) (line : List ℕ) (job : Job) → Says line (Wanted job) → max_lookups < length (jobs ++ job ∷ []) → IsBadBehind jobs line
 one_too_many jobs line job s much said says =

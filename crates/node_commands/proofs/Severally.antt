@@ -51,7 +51,7 @@ use Rattle.command_base.specs.Promise.{IsOneOf, reading}
 use Rattle.command_base.specs.Shown.{Shown}
 use Rattle.command_base.specs.Started.{drawn_of, own_of, seen_call, IsInRange}
 use Rattle.command_base.proofs.Starting.{admits_usable, usable_told}
-use Rattle.command_base.proofs.Exactly.{added_once, admits_once, input_once, unread_not_bad_of}
+use Rattle.command_base.proofs.Exactly.{added_once, admits_once, input_once}
 use Rattle.node_commands.proofs.JobLaws.{jobs_carried, jobs_once, named_or_bad, reports_once}
 use Rattle.command_base.proofs.Lawful.{Lawful}
 use Rattle.serve_commands.proofs.Serving.{kept_pass}
@@ -60,9 +60,6 @@ use Rattle.command_base.proofs.Vouched.{vouched_lawful}
 use Rattle.command_base.specs.Vouched.{Vouches}
 
 -- ---- its input
-
-jobs_apart : (input : List ℕ) (number : ℕ) → AreGoodJobs input → IsBadJob input number → ⊥
-jobs_apart input number good bad = named_or_bad (lines input) good.0 good.1 number good.2 bad
 
 names_good : (source : Shown ℕ) (reports : List Report) (jobs : List Job) → Names source reports jobs → ReadsAs AreGoodJobs source
 names_good source reports jobs n = record { input = n.input; read = n.read; is_good = (reports, jobs, n.good_lines) }
@@ -177,35 +174,6 @@ module _ (look : LookWords) (lasting : Lasting) (proof : Option Proof) (called :
   no_start with_table Strays h = absurd h
   no_start with_table other h = h
 
-begun_lawful : (words : NodeWords) → Lawful (reading (node_aim words.look (lasting_of words) words.proof words.table))
-begun_lawful words = reading_lawful (node_aim words.look (lasting_of words) words.proof words.table) (record {
-  good = λ called source link written t. names_good source t.ran.starts.reports t.ran.jobs t.ran.starts.names;
-  apart = jobs_apart;
-  seedless = λ called source n. names_good source n.reports n.jobs n.names;
-  unrestored = λ source unsound. absurd unsound;
-  sound = λ called source link written told t unsound. unsound;
-  seeded = λ called source link written told t n. start_or_nobody words.look called.random source told (starts_given words.look called.random source t.ran.jobs t.ran.table t.ran.proofs t.ran.starts) n;
-  few = λ called source link written told t last. not_foreign words.look (lasting_of words) words.proof called source link told (ran_tells words.look (lasting_of words) words.proof called source link t.ran) last;
-  uncalled = λ called link told same last. uncalled_not_foreign words.look (lasting_of words) words.proof called link told same last;
-  behind = λ called source link s c. behind words.look (lasting_of words) words.proof called source link words.table s c;
-  well = λ called source link n. (n.told, n.reads, names_good source n.start.reports n.start.jobs n.start.names);
-  needed = λ called source link s n c. needed words.look (lasting_of words) words.proof called source link s n c;
-  in_ends = λ called source link s c. in_ends words.look (lasting_of words) words.proof called source link s c;
-  seeks = λ none_ called source n. none_ refl;
-  counts = λ none_ called source link last. none_ refl;
-  restores = λ none_ source unsound. unsound;
-})
-
--- no line of an input of no bytes is bad
-no_line_bad : AreGoodJobs []
-no_line_bad = ([], [], record { said = Nothing ∷ []; each = (tt, tt); reports_are = refl; jobs_are = refl; few = omega arith })
-
-pub node_lawful : (words : NodeWords) → Lawful (node_promise words)
-node_lawful words =
-    vouched_lawful (λ random. Vouches words.look words.proof random) (node_aim words.look (lasting_of words) words.proof words.table) (begun_lawful words) refl
-    (λ source number told same. unread_not_bad_of AreGoodJobs IsBadJob jobs_apart no_line_bad source number told same)
-    (λ called link told same last. uncalled_not_foreign words.look (lasting_of words) words.proof called link told same last) (λ source unsound. unsound)
-
 -- ---- behind the proof
 
 module _ (words : NodeWords) (called : Called) (source : Shown ℕ) (link : Shown Event) where
@@ -233,11 +201,6 @@ module _ (words : NodeWords) (called : Called) (source : Shown ℕ) (link : Show
 
 -- ---- the same over the values that the code has
 
--- lines that said nothing gave no start
-pub unnamed : (look : LookWords) (random : List ℕ) (source : Shown ℕ) (s : Status) → NamesCause source s → StartsCause look random source s
-unnamed look random source NoSeeds h = absurd h
-unnamed look random source other h = h
-
 -- what the node answers by
 abbrev server_by : LookWords → Option Proof → List Report → Id → TokensState → ServeSetting
 server_by look proof proofs own tokens = record { own = own; k = look.k; policy = look.policy; proofs = proofs; tokens = tokens; sealed = look.sealed; proof = proof }
@@ -246,12 +209,6 @@ pub server_is : (look : LookWords) (proof : Option Proof) (random : List ℕ) (p
     → record { own = own; k = look.k; policy = look.policy; proofs = proofs; tokens = tokens; sealed = look.sealed; proof = proof } ≡ server_of look proof random proofs
 server_is look proof random proofs own tokens mine drawn =
     ap (λ (id : Id). server_by look proof proofs id tokens) mine ∙ ap (λ (t : TokensState). server_by look proof proofs (own_of look.own random) t) drawn
-
-pub is_setting : (look : LookWords) (proof : Option Proof) (proofs : List Report) (own : Id) (tokens : TokensState) → IsInRange look → All (Passes look.policy) proofs → IsSetting (record { own = own; k = look.k; policy = look.policy; proofs = proofs; tokens = tokens; sealed = look.sealed; proof = proof })
-is_setting look proof proofs own tokens range pass = record { some_nodes = range.some_live; few_nodes = range.few_live; proofs = pass }
-
-pub within_each : (look : LookWords) → IsInRange look → IsWithinLimits (record { paths = look.paths; alpha = look.alpha; timeout = look.timeout; per_address = look.per_address })
-within_each look range = record { some_path = range.some_path; few_paths = range.few_paths; some_query = range.some_query; few_queries = range.few_queries }
 
 module _ (look : LookWords) (lasting : Lasting) (proof : Option Proof) (called : Called) (jobs : List Job) (table : TableState) (proofs : List Report) (link : Shown Event) (server : ServeSetting) (words : WordsState)
     (server_are : server ≡ server_of look proof called.random proofs) (words_are : words ≡ drawn_of called.random) (after : TableState) (left : WordsState) where
@@ -282,19 +239,6 @@ starts_with look random source own reports read jobs contacts cs ds proofs table
   told = subst (λ (id : Id). TableTold (map seen_call contacts) (limited_table id look.k look.bits look.per_address) table) mine (subst (λ (l : List Contact). TableTold (map seen_call l) (limited_table own look.k look.bits look.per_address) table) same told);
   keeps = subst (λ (id : Id). Keeps id Four look.policy reports proofs) mine (subst (λ (l : List Report). Keeps own Four look.policy l proofs) is keeps);
 }
-
-pub gives_nobody : (look : LookWords) (random : List ℕ) (source : Shown ℕ) (own : Id) (reports read : List Report) (jobs js : List Job) (contacts cs : List Contact) → own ≡ own_of look.own random → Names source reports jobs → read ≡ reports → js ≡ jobs → cs ≡ contacts
-    → Admits own Four look.policy read contacts → js ≢ [] → cs ≡ [] → GivesNobody look random source
-gives_nobody look random source own reports read jobs js contacts cs mine names is same too admits job none_ =
-    let empty : contacts ≡ [] = sym too ∙ none_ in
-    let all = subst (λ (l : List Report). Admits own Four look.policy l contacts) is admits in
-    record {
-      reports = reports;
-      jobs = jobs;
-      names = names;
-      some_job = λ e. job (same ∙ e);
-      no_one = subst (λ (id : Id). Admits id Four look.policy reports []) mine (subst (Admits own Four look.policy reports) empty all);
-    }
 
 module _ (look : LookWords) (random : List ℕ) (source : Shown ℕ) (jobs : List Job) (table : TableState) (proofs : List Report) (s : Starts look random source jobs table proofs) where
   pub starts_usable : (own : Id) → own ≡ own_of look.own random → All (IsUsable own) (contacts_of table)

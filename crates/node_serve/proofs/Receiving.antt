@@ -89,13 +89,6 @@ module _ (tag_of : Tags) (limit : Option ℕ) where
       let unsent : sent_in es ≡ 0 = ap sent_in whole in
       record { serves = quiet whole refl; received_are = omega (arith, none_); replied_are = omega (arith, unsent) })
 
--- a query came whose answer found no memory
-pub query_came : (limit : Option ℕ) (s : Server) (next : NodeState) (from : Addr) (bytes : List ℕ) (until at : ℕ) (a b c : Option (List Event)) → is_over limit s.moment ≡ false → until ≡ waits_to limit s.moment → Grows a b (λ es. es ≡ Got from bytes until at ∷ []) → c ≡ b
-    → EndsEarly s.node from bytes at next → Grows a c (Unanswered limit (serve_state s))
-query_came limit s next from bytes until at a b c goes waits g still ends =
-    subst (λ (o : Option (List Event)). Grows a o (Unanswered limit (serve_state s))) (sym still)
-    (grows_weaker a b _ _ g (λ es e. record { from = from; bytes = bytes; at = at; next = next; in_time = goes; got = e ∙ ap (λ u. Got from bytes u at ∷ []) waits; ends = ends }))
-
 -- ---- all of them
 
 got_then : (es fs : List Event) → got_in (es ++ fs) ≡ got_in es + got_in fs

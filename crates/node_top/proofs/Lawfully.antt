@@ -14,26 +14,9 @@ use Rattle.command_base.specs.Input.{IsGood, Lists}
 use Rattle.command_base.specs.Shown.{Shown}
 use Rattle.command_base.proofs.Lawful.{Lawful}
 use Rattle.lookup_commands.proofs.Lawfully.{lookup_lawful, peers_lawful, get_lawful, put_lawful}
-use Rattle.command_base.proofs.Hosting.{hosting_lawful, judging_lawful}
+use Rattle.command_base.proofs.Hosting.{hosting_lawful}
 use Rattle.plain_commands.proofs.Minting.{mint_lawful}
-use Rattle.table_commands.proofs.Refreshing.{refreshing_lawful}
-use Rattle.node_commands.proofs.Severally.{node_lawful}
-use Rattle.command_base.proofs.Ranges.{look_in_range, table_in_range}
-use Rattle.serve_commands.proofs.Serving.{service_in_range}
-use Rattle.plain_commands.proofs.Simulating.{simulable}
-use Rattle.command_base.proofs.Staged.{made_lawful}
-
-good_by : (source : Shown ℕ) (reports : List Report) → Lists source reports → IsGood source
-good_by source reports lists = record { reports = reports; lists = lists }
-
-hosts_good : (service : ServeWords) (random : List ℕ) (source : Shown ℕ) (table : TableState) (proofs : List Report) → Hosts service random source table proofs → IsGood source
-hosts_good service random source table proofs h = record { reports = h.reports; lists = h.lists }
-
--- the ways in which a promise is made
-ruleset forms = (hosting_lawful, judging_lawful, made_lawful, refreshing_lawful, node_lawful, good_by, hosts_good)
-
--- the limits of words
-ruleset limits = (look_in_range, table_in_range, service_in_range, simulable)
+use Rattle.command_base.proofs.Ranges.{look_in_range}
 
 pub lawful : (command : Command) → Lawful (promise_of command)
 lawful (Lookup look) = lookup_lawful look

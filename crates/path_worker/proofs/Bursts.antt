@@ -19,9 +19,6 @@ use Rattle.contact_table.specs.declared.calls.TableReply.TheVariants.{NoMemory}
 use Rattle.path_worker.specs.Hand.{Hand, SameHand}
 use Rattle.path_worker.specs.Burst.{noted, settled, ToldOf, SettledOf, book_calls, table_calls, IsDone, Going, Emptied, Stopped, DidOne, FoundNothing, FoundNoMemory}
 
-twice_nil : {A : Type 0} (xs : List A) → xs ≡ (xs ++ []) ++ []
-twice_nil xs = sym (append-nil (xs ++ []) ∙ append-nil xs)
-
 -- what grew by some, and then by others
 grows : {A B : Type 0} (f : A → List B) (old mid new ends : List B) (things : List A) → mid ≡ (old ++ flat_map f things) ++ [] → new ≡ mid ++ ends → new ≡ (old ++ flat_map f things) ++ ends
 grows f old mid new ends things is more = more ∙ ap (λ l. l ++ ends) (is ∙ append-nil (old ++ flat_map f things))
@@ -33,13 +30,6 @@ grows_one f old mid new things one is more =
     ∙ append_assoc old (flat_map f things) (f one)
     ∙ ap (λ l. old ++ l) (ap (λ l. flat_map f things ++ l) (sym (append-nil (f one))) ∙ sym (flat_map-append f things (one ∷ [])))
     ∙ sym (append-nil (old ++ flat_map f (things ++ one ∷ [])))
-
-pub going_none : (hand : Hand) → Going hand hand 0
-going_none hand = record {
-  things = [];
-  grew = record { done = All-nil _; book = twice_nil (mine hand.book); table = twice_nil (mine hand.table) };
-  count = refl;
-}
 
 pub going_on : (old mid new : Hand) (n m : ℕ) → Going old mid n → SameHand old mid → DidOne mid new → m ≡ n + 1 → Going old new m
 going_on old mid new n m going same one is =
@@ -55,32 +45,6 @@ going_on old mid new n m going same one is =
       count = (let c = going.count in omega (arith, length-append going.things (one.0 ∷ [])));
     }
 
-pub going_emptied : (old mid new : Hand) (n : ℕ) → Going old mid n → SameHand old mid → FoundNothing mid new → Emptied old new n
-going_emptied old mid new n going same nothing =
-    let told = going.grew in
-    record {
-      things = going.things;
-      grew = record {
-        done = told.done;
-        book = grows (book_calls old.book.role) (mine old.book) (mine mid.book) (mine new.book) _ going.things told.book (nothing.0 ∙ ap (λ r. mine mid.book ++ made r Pull Idle ∷ []) same.book_role);
-        table = nothing.1 ∙ told.table;
-      };
-      count = going.count;
-    }
-
-pub going_stopped : (old mid new : Hand) (n : ℕ) → Going old mid n → SameHand old mid → FoundNoMemory mid new → Stopped old new
-going_stopped old mid new n going same short =
-    let told = going.grew in
-    record {
-      things = going.things;
-      contact = short.0;
-      grew = record {
-        done = told.done;
-        book = grows (book_calls old.book.role) (mine old.book) (mine mid.book) (mine new.book) _ going.things told.book (short.1 ∙ ap (λ r. mine mid.book ++ made r Pull (Alive short.0) ∷ []) same.book_role);
-        table = grows (table_calls old.table.role) (mine old.table) (mine mid.table) (mine new.table) _ going.things told.table (short.2 ∙ ap (λ r. mine mid.table ++ made r (Seen short.0) NoMemory ∷ []) same.table_role);
-      };
-    }
-
 pub same_hand : (old mid new : Hand) → SameHand old mid → SameHand mid new → SameHand old new
 same_hand old mid new a b = record {
   path = b.path ∙ a.path;
@@ -90,9 +54,6 @@ same_hand old mid new a b = record {
   table_role = b.table_role ∙ a.table_role;
   policy = b.policy ∙ a.policy;
 }
-
-pub same_self : (hand : Hand) → SameHand hand hand
-same_self hand = record { path = refl; book = refl; book_role = refl; table = refl; table_role = refl; policy = refl }
 
 -- a pull and a note are one thing
 pub did_note : (old mid new : Hand) (c : Contact) → mid.book.role ≡ old.book.role → mine mid.book ≡ mine old.book ++ made old.book.role Pull (Alive c) ∷ [] → mid.table ≡ old.table

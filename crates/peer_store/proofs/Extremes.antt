@@ -8,19 +8,10 @@ use Rattle.std.specs.Cmp.Lexicographic.{slice_cmp}
 use Rattle.std.specs.declared.cmp.Ordering.{Ordering}
 use Rattle.std.specs.declared.cmp.Ordering.TheVariants.{Less, Equal, Greater}
 
-not_gt : (a b : Ordering) → is_gt a ≡ false → is_gt b ≡ false → is_gt (ordering_then a b) ≡ false
-not_gt Less b f g = refl
-not_gt Equal b f g = g
-not_gt Greater b f g = f
-
 not_lt : (a b : Ordering) → is_lt a ≡ false → is_lt b ≡ false → is_lt (ordering_then a b) ≡ false
 not_lt Less b f g = f
 not_lt Equal b f g = g
 not_lt Greater b f g = refl
-
-zero_first : (n : ℕ) → is_gt (nat_cmp 0 n) ≡ false
-zero_first zero = refl
-zero_first (suc n) = ap is_gt (sym (nat_cmp_is 0 (suc n) Less (omega arith)))
 
 greatest_last : (n m : ℕ) → n ≤ m → is_lt (nat_cmp m n) ≡ false
 greatest_last n m le = by (nat_lt m n) (m == n) (le-ltb m n le)
@@ -29,12 +20,6 @@ greatest_last n m le = by (nat_lt m n) (m == n) (le-ltb m n le)
     by true d e = absurd cc
     by false true e = refl
     by false false e = refl
-
-pub zeros_first : (n : ℕ) (bytes : List ℕ) → n ≤ length bytes → is_gt (slice_cmp nat_cmp (replicate n 0) bytes) ≡ false
-zeros_first zero [] le = refl
-zeros_first zero (b ∷ bytes) le = refl
-zeros_first (suc n) [] le = absurd (omega arith)
-zeros_first (suc n) (b ∷ bytes) le = not_gt (nat_cmp 0 b) (slice_cmp nat_cmp (replicate n 0) bytes) (zero_first b) (zeros_first n bytes (omega arith))
 
 pub greatest_bytes_last : (n : ℕ) (bytes : List ℕ) → length bytes ≤ n → ((i : ℕ) → get_or bytes i 0 < 256) → is_lt (slice_cmp nat_cmp (replicate n 255) bytes) ≡ false
 greatest_bytes_last zero [] le small = refl

@@ -50,18 +50,6 @@ sim_range s h = record {
   few_bits = omega arith;
 }
 
-pub look_range : (s : Simulation) (net : Network) (target : Id) (look : LookWords) → IsSimulable s → look ≡ look_to target s → IsInRange look
-look_range s net target look h e = subst IsInRange (sym e) (record {
-  some_live = h.some_live;
-  few_live = h.few_live;
-  some_path = h.some_path;
-  few_paths = h.few_paths;
-  some_query = h.some_query;
-  few_queries = h.few_queries;
-  some_bits = omega arith;
-  few_bits = omega arith;
-})
-
 -- what it begins with
 pub begins : (s : Simulation) (net : Network) (target : Id) (look : LookWords) (setting : LookSetting) (near : List Contact) (count : ℕ) (reports : List Report) (contacts xs : List Contact) (table : TableState)
     → net ≡ network_of s → target ≡ target_of net.seed → look ≡ look_to target s → setting ≡ look_of FindNode look s.seed
@@ -147,19 +135,3 @@ simulates s start key words left o net wide before (Some events) text begun seal
 pub sim_pieces : (found asked failed turned honest : ℕ)
     → codes "found " ++ (decimal found ++ (codes " asked " ++ (decimal asked ++ (codes " failed " ++ (decimal failed ++ (codes " turned " ++ (decimal turned ++ (codes " honest " ++ decimal honest)))))))) ≡ sim_text found asked failed turned honest
 sim_pieces found asked failed turned honest = sym (simp append_assoc refl)
-
-pub simulable : (value : Values) (s : Simulation) → NumberOf nodes_option value s.nodes → NumberOf k_option value s.k → NumberOf paths_option value s.paths → NumberOf alpha_option value s.alpha → IsSimulable s
-simulable value s nodes k paths alpha =
-    let some_nodes = within 1 20000 2000 (omega arith) (omega arith) _ s.nodes nodes in
-    let live = within 1 20 8 (omega arith) (omega arith) _ s.k k in
-    let path = within 1 8 4 (omega arith) (omega arith) _ s.paths paths in
-    let query = within 1 4 3 (omega arith) (omega arith) _ s.alpha alpha in
-    record {
-      few_nodes = some_nodes.below;
-      some_live = live.above;
-      few_live = live.below;
-      some_path = path.above;
-      few_paths = path.below;
-      some_query = query.above;
-      few_queries = query.below;
-    }

@@ -40,9 +40,6 @@ slots_other crew h w shift ne =
     ap (λ l. get_or l w []) (map_set (λ (s : Shift). s.slots.items) crew h shift)
     ∙ get_or-set_other (map (λ (s : Shift). s.slots.items) crew) h w shift.slots.items [] ne
 
-pub same_crew_none : (crew : List Shift) → SameCrew crew crew
-same_crew_none crew = record { len = refl; workers = λ w d lt. refl; slots = λ w. refl }
-
 pub same_crew_more : (old mid new : List Shift) → SameCrew old mid → SameCrew mid new → SameCrew old new
 same_crew_more old mid new a b = record {
   len = b.len ∙ a.len;

@@ -65,19 +65,11 @@ module _ (limit : Option ℕ) (left moment : ℕ) (ds : List Datagram) (es : Lis
 
 -- ---- the workers
 
-pub roles_batch : (tag_of : Tags) (s : ServeSetting) (m : ℕ) (old mid new : List Shift) → SameCrew old mid → AllWorked tag_of s (ring (length mid) m) mid new → SameRoles old new
-roles_batch tag_of s m old mid new same worked w d lt =
-    let l = same.len in
-    subst (λ h. SameHands h (get_or new w d).worker) (same.workers w d lt) (worked w d (omega (arith, l, lt))).same
-
 pub grew_batch : (tag_of : Tags) (s : ServeSetting) (m : ℕ) (old mid new : List Shift) → SameCrew old mid → AllWorked tag_of s (ring (length mid) m) mid new → GrewSome old new
 grew_batch tag_of s m old mid new same worked w d lt =
     let l = same.len in
     let h = (worked w d (omega (arith, l, lt))).answers in
     (flat_map (λ (x : Handled). x.did) h.all, subst (λ x. Grew x (get_or new w d).worker (flat_map (λ (y : Handled). y.did) h.all)) (same.workers w d lt) h.grew)
-
-pub roles_kept : (old new : List Shift) → SameCrew old new → SameRoles old new
-roles_kept old new same w d lt = subst (SameHands (get_or old w d).worker) (sym (same.workers w d lt)) (same_none (get_or old w d).worker)
 
 pub grew_kept : (old new : List Shift) → SameCrew old new → GrewSome old new
 grew_kept old new same w d lt = ([], subst (λ h. Grew (get_or old w d).worker h []) (sym (same.workers w d lt)) (grew_none (get_or old w d).worker))
@@ -118,9 +110,6 @@ batch_served tag_of limit s p q b sent old mid new x y z some goes same a moment
       received_are = omega (arith, received, count, g, gt, kg);
       replied_are = omega (arith, replied, v, st, ks);
     })
-
-pub batch_unanswered : (limit : Option ℕ) (left moment : ℕ) (b : Received) (crew : List Shift) (x y : Option (List Event)) → 0 < left → is_over limit moment ≡ false → Happens x y (IsReceived limit left moment b crew) → Happens x y (λ es. (es ≡ []) ⊎ IsUnanswered limit left moment es)
-batch_unanswered limit left moment b crew x y some goes h = happens_weaker x y _ _ h (λ t r. inr (record { some = some; goes = goes; came = batch_datagrams crew b.came; made = b.made; end = b.moment; received = r }))
 
 -- ---- all of them
 

@@ -56,10 +56,6 @@ module _ (o : Option Known) (k : Known) (is : o ≡ Some k) (p : Place) (old mid
   pub worked_all : (new : List Shift) → AllDid (DidWork o) mid new → AllWorked k.tag_of k.setting p old new
   worked_all new all w d lt = worked_told k.tag_of k.setting (share p w) (get_or old w d) (get_or mid w d) (get_or new w d) (told w d lt) (did_at (DidWork o) mid new all w d (omega (arith, lt, len)) k is)
 
--- what one did of the turns and by the setting that it knows
-pub did_work : (o : Option Known) (j : Known) (is : o ≡ Some j) (given : ℕ) (old new : Shift) → Worked j.tag_of j.setting given old new → given ≡ old.given → DidWork o old new
-did_work o j is given old new w e k is' = subst (λ (x : Known). Worked x.tag_of x.setting old.given old new) (ap (known_of j) (sym is ∙ is')) (subst (λ n. Worked j.tag_of j.setting n old new) e w)
-
 module _ (p : Place) (old : List Shift) where
   -- the first so many are told, and the others are as they were
   pub record ToldFirst (n : ℕ) (now : List Shift) : Type 0 where
@@ -85,8 +81,3 @@ pub serves_known : (o : Option Known) (j : Known) → o ≡ Some j → Serves o 
 serves_known o j is k is' =
     let same : j ≡ k = ap (known_of j) (sym is ∙ is') in
     (ap (λ (x : Known). x.tag_of) same, ap (λ (x : Known). x.turns) same)
-
--- what one did whose setting and turns are those that are known
-pub did_known : (o : Option Known) (tag_of : Tags) (s : ServeSetting) (given : ℕ) (old new : Shift)
-    → ((k : Known) → o ≡ Some k → tag_of ≡ k.tag_of) → HasSetting o s → Worked tag_of s old.given old new → DidWork o old new
-did_known o tag_of s given old new tags set w k is = subst (λ t. Worked t k.setting old.given old new) (tags k is) (subst (λ x. Worked tag_of x old.given old new) (set k is) w)

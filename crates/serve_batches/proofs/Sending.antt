@@ -33,9 +33,6 @@ sends_more (x ∷ slots) s b es h =
 batch_slots_more : (crew : List Shift) (m : ℕ) (place : Place) → place ≡ ring (length crew) m → batch_slots crew (m + 1) ≡ batch_slots crew m ++ slot_at crew place ∷ []
 batch_slots_more crew m place is = in_order_more no_slot (length crew) (slots_of crew) m ∙ ap (λ p. batch_slots crew m ++ slot_at crew p ∷ []) (sym is)
 
-pub sent_none : (crew : List Shift) (a : Option (List Event)) → Happens a a (SendsAll (batch_slots crew 0) 0)
-sent_none crew a = happens_none a _ (record { are = refl; sent_are = refl; none_got = refl })
-
 pub sent_more : (crew : List Shift) (m sent n : ℕ) (place : Place) (a b c : Option (List Event)) → place ≡ ring (length crew) m → Happens a b (SendsAll (batch_slots crew m) sent) → n ≡ sent_in (sends_of (slot_at crew place) n)
     → Grows b c (λ es. es ≡ sends_of (slot_at crew place) n) → Happens a c (SendsAll (batch_slots crew (m + 1)) (sent + n))
 sent_more crew m sent n place a b c is h count grows =
@@ -54,9 +51,6 @@ sent_more crew m sent n place a b c is h count grows =
     })
 
 -- ---- whether there was memory
-
-pub went_none : (crew : List Shift) → AllWent (batch_slots crew 0)
-went_none crew = All-nil (λ (s : SlotState). Went s.answered)
 
 pub went_more : (crew : List Shift) (m : ℕ) (place : Place) → place ≡ ring (length crew) m → AllWent (batch_slots crew m) → Went (slot_at crew place).answered → AllWent (batch_slots crew (m + 1))
 went_more crew m place is h one =

@@ -33,7 +33,7 @@ use Rattle.serve_commands.specs.Served.{Hosts, begun_at, lasting_of, Served, Ser
 use Rattle.command_base.specs.Started.{own_of, seen_call}
 use Rattle.command_base.specs.Called.{Called}
 use Rattle.kad_words.specs.Table.{bits_option, k_option, workers_option, Values, NumberOf}
-use Rattle.command_base.proofs.Ranges.{within, table_in_range}
+use Rattle.command_base.proofs.Ranges.{within}
 
 -- ---- the command
 
@@ -82,18 +82,6 @@ hosted service random source own reports read contacts cs proofs table mine list
 pub err_is : {T E : Type 0} (r : Result T E) (x y : E) → r ≡ Err x → x ≡ y → r ≡ Err y
 err_is r x y e f = subst (λ z. r ≡ Err z) f e
 
--- and it had called the link
-pub four_late : EndsBefore 4 → ⊥
-four_late e = elim e [ inl a ↦ absurd cc | inr e ↦ elim e [ inl a ↦ absurd cc | inr e ↦ elim e [ inl a ↦ absurd cc | inr e ↦ elim e [ inl a ↦ absurd cc | inr e ↦ elim e [ inl a ↦ absurd cc | inr e ↦ elim e [ inl a ↦ absurd cc | inr e ↦ elim e [ inl a ↦ absurd cc | inr e ↦ elim e [ inl a ↦ absurd cc | inr a ↦ absurd cc ] ] ] ] ] ] ] ]
-
-pub nine_late : EndsBefore 9 → ⊥
-nine_late e = elim e [ inl a ↦ absurd cc | inr e ↦ elim e [ inl a ↦ absurd cc | inr e ↦ elim e [ inl a ↦ absurd cc | inr e ↦ elim e [ inl a ↦ absurd cc | inr e ↦ elim e [ inl a ↦ absurd cc | inr e ↦ elim e [ inl a ↦ absurd cc | inr e ↦ elim e [ inl a ↦ absurd cc | inr e ↦ elim e [ inl a ↦ absurd cc | inr a ↦ absurd cc ] ] ] ] ] ] ] ]
-
--- how it ends where its input gave no reports
-pub unread_cause : (begun : Type 0) (source : Shown ℕ) (link : Shown Event) (status : Status) → ReportsCause source status → ReadingCause IsBadContactLine (HostCause begun link) source status
-unread_cause begun source link LinkFault h = absurd h
-unread_cause begun source link other h = h
-
 -- the kept reports pass
 pub kept_pass : (own : Id) (family : Family) (policy : Policy) (rs kept : List Report) → Keeps own family policy rs kept → All (Passes policy) kept
 kept_pass own family policy [] kept h = subst (All (Passes policy)) (sym h) (All-nil (Passes policy))
@@ -105,8 +93,3 @@ kept_pass own family policy (r ∷ rs) kept h =
 
 pub served_pieces : (received replied : ℕ) → codes "received " ++ (decimal received ++ (codes " replied " ++ decimal replied)) ≡ served_text received replied
 served_pieces received replied = sym (append_assoc (codes "received " ++ decimal received) (codes " replied ") (decimal replied) ∙ append_assoc (codes "received ") (decimal received) (codes " replied " ++ decimal replied))
-
-pub service_in_range : (value : Values) (service : ServeWords) → NumberOf k_option value service.k → NumberOf bits_option value service.bits → NumberOf workers_option value service.workers → AreServiceBounds service
-service_in_range value service is_k is_bits is_workers =
-    let workers = within 1 8 1 (omega arith) (omega arith) _ service.workers is_workers in
-    record { table = table_in_range value service.k service.bits is_k is_bits; some_worker = workers.above; few_workers = workers.below }

@@ -22,9 +22,6 @@ use Rattle.command_base.proofs.Staged.{Behind, reading_lawful}
 
 -- ---- its input
 
-saved_apart : (input : List ℕ) (number : ℕ) → IsSaved input → IsBadSavedLine input number → ⊥
-saved_apart input number saved bad = bad.unread saved.0 saved.1
-
 restored : (source : Shown ℕ) (table : TableState) → Restores source table → ReadsAs IsSaved source
 restored source table r = record { input = r.input; read = r.read; is_good = (r.saved, r.is_saved) }
 
@@ -76,29 +73,3 @@ module _ (words : RefreshWords) (called : Called) (source : Shown ℕ) (link : S
   no_table LinkFault h = absurd h
   no_table Strays h = absurd h
   no_table other h = h
-
-pub refreshing_lawful : (words : RefreshWords) → Lawful (refresh_promise words)
-refreshing_lawful words = reading_lawful (refresh_aim words) (record {
-  good = λ called source link written t. restored source t.refreshes.table t.refreshes.restores;
-  apart = saved_apart;
-  seedless = λ called source none_. absurd none_;
-  unrestored = λ source n. unrestored source n;
-  sound = λ called source link written told t n. sound_or_not source t.refreshes.table told t.refreshes.restores n;
-  seeded = λ called source link written told t none_. none_;
-  few = λ called source link written told t last. last;
-  uncalled = λ called link told same last. last;
-  behind = λ called source link s c. behind words called source link s c;
-  well = λ called source link n. (n.told, n.reads, restored source n.table n.restores);
-  needed = λ called source link s n c. needed words called source link s n c;
-  in_ends = λ called source link s c. in_ends words called source link s c;
-  seeks = λ none_ called source no_one. no_one;
-  counts = λ none_ called source link last. none_ refl;
-  restores = λ none_ source n. none_ refl;
-})
-
--- an input that wasn't read to its end, of whatever lines
-pub whole_cause : (bad : List ℕ → ℕ → Type 0) (behind : Status → Type 0) (source : Shown ℕ) (s : Status) → WholeCause source s → ReadingCause bad behind source s
-whole_cause bad behind source SourceFault h = h
-whole_cause bad behind source NoMemory h = tt
-whole_cause bad behind source TooLong h = h
-whole_cause bad behind source other h = absurd h

@@ -13,10 +13,6 @@ use Rattle.table_refresh.specs.Refreshed.{IsMatched, IsStray}
 to_ping : (sealed : Bool) (accepts : Accepts) (q : Query) (from : Addr) (bytes : List ℕ) (r : Reply) → IsMatched sealed accepts q from bytes r → RepliesTo bytes q.tx r
 to_ping sealed accepts q from bytes r h = record { believable = h.believable; message = h.said; says = h.says; to_query = h.to_query }
 
--- what comes from elsewhere is a stray
-pub stray_elsewhere : (sealed : Bool) (accepts : Accepts) (q : Query) (from : Addr) (bytes : List ℕ) → ¬ (from ≡ q.contact.addr) → IsStray sealed accepts q from bytes
-stray_elsewhere sealed accepts q from bytes other r h = other h.source
-
 -- so is what is no reply
 pub stray_silent : (sealed : Bool) (accepts : Accepts) (q : Query) (from : Addr) (bytes : List ℕ) → q.tx < 2 ^ 32 → IsNoReply bytes → IsStray sealed accepts q from bytes
 stray_silent sealed accepts q from bytes small none r h = none q.tx r small (to_ping sealed accepts q from bytes r h)
@@ -35,7 +31,3 @@ pub matched_ping : (sealed : Bool) (accepts : Accepts) (q : Query) (from : Addr)
 matched_ping sealed accepts q from bytes said source same reads has =
     let replies = reads.replies in
     record { believable = replies.believable; said = replies.message; says = replies.says; to_query = subst (λ w. SaysTo (word_bytes w) replies.message said.reply) same replies.to_query; source = source; sealed = has }
-
--- its tag aside
-pub tag_aside : (sealed : Bool) (accepts : Accepts) (q : Query) (from : Addr) (bytes : List ℕ) (r : Reply) → IsMatched sealed accepts q from bytes r → IsMatched false accepts q from bytes r
-tag_aside sealed accepts q from bytes r h = record { believable = h.believable; said = h.said; says = h.says; to_query = h.to_query; source = h.source; sealed = tt }

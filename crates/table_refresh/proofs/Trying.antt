@@ -149,9 +149,6 @@ pings_twice setting accepts head words between words' old mid new kept a b c dra
     (subst (λ seed. TellsFrom (given_of setting accepts seed) (stands mid between.place (head ∷ rest) true None) fs (stands new words'.place rest false None)) (same_seed words between drawn)
     (subst (λ t. TellsFrom (given_of setting accepts between.seed) (stands mid between.place (head ∷ rest) true None) fs t) (last_try new words'.place head rest kept) (y rest true))))
 
-pub ends_at_once : (setting : Setting) (accepts : Accepts) (head : Contact) (words words' : WordsState) (old : Progress) (table' : TableState) (fault : RefreshFault) (a b : Option (List Event)) → Happens a b (TryEnds setting accepts head words words' old table' fault) → Happens a b (TheseEnd setting accepts (head ∷ []) words words' old table' fault)
-ends_at_once setting accepts head words words' old table' fault a b h = happens_weaker a b _ _ h (λ es x. λ rest. x rest false)
-
 pub ends_again : (setting : Setting) (accepts : Accepts) (head : Contact) (words between words' : WordsState) (old mid : Progress) (table' : TableState) (fault : RefreshFault) (a b c : Option (List Event)) → between ≡ record words { place = words.place + 1 } → Happens a b (Tries setting accepts head words between old mid true) → Happens b c (TryEnds setting accepts head between words' mid table' fault)
     → Happens a c (TheseEnd setting accepts (head ∷ []) words words' old table' fault)
 ends_again setting accepts head words between words' old mid table' fault a b c drawn h k =
