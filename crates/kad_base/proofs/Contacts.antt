@@ -1,5 +1,5 @@
 -- Contacts are told apart by their order.
-use Rattle.std.proofs.Common.{◌≡◌, ◌≢◌, ℕ, List, ◌++◌, get_or, Bool, true, false, ◌||◌, refl, sym, ap, arith}
+use Rattle.std.proofs.Common.{◌≡◌, ◌≢◌, ◌↔◌, ℕ, List, ◌++◌, get_or, Bool, true, false, IsTrue, ◌||◌, refl, sym, ap, ◌∙◌, arith}
 use Rattle.std.specs.Ordering.{ordering_then, nat_cmp, is_eq}
 use Rattle.std.specs.Cmp.{IsTotalOrder}
 use Rattle.std.specs.Cmp.Lexicographic.{slice_cmp}
@@ -64,3 +64,12 @@ differ_contact x y i ne = go (same x y) refl
     go : (t : Bool) → same x y ≡ t → false ≡ same x y
     go false e = sym e
     go true e = absurd (ne (ap (λ (c : Contact). get_or c.id.0 i 0) (same_exact x y e)))
+
+-- a test of equality is the sameness
+pub same_equal : (t : Bool) (a b : Contact) → IsTrue t ↔ (a ≡ b) → t ≡ same a b
+same_equal true a b h = sym (ap (same a) (sym (h.0 refl)) ∙ same_itself a)
+same_equal false a b h = sym (not_same (same a b) refl)
+  where
+    not_same : (s : Bool) → same a b ≡ s → s ≡ false
+    not_same false e = refl
+    not_same true e = sym (h.1 (same_exact a b e))

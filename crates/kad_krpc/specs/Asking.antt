@@ -119,10 +119,11 @@ rest_at Method_get a id = get_at a id
 rest_at Method_put a id = put_at a id
 
 -- who asks comes before what the method names
+abbrev pub asked_at : Method → Look → Step Ask
+asked_at method a = then (needed id_of key.Id (a (codes "id"))) (rest_at method a)
+
 abbrev pub arguments_at : Method → Option Value → Step Ask
-arguments_at method a =
-    then (needed look_of key.A a) (λ a.
-    then (needed id_of key.Id (a (codes "id"))) (λ id. rest_at method a id))
+arguments_at method a = then (needed look_of key.A a) (asked_at method)
 
 -- the methods of BEP 5 and BEP 44
 abbrev pub method_in : List ℕ → Option Method

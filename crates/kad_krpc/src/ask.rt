@@ -4,8 +4,10 @@ ghost use Rattle.kad_bencode.specs.Parts.{member_of};
 ghost use Rattle.kad_bencode.specs.Spelling.{text_of};
 ghost use Rattle.kad_bencode.specs.Written.{Puts, PutsPairs};
 ghost use Rattle.kad_bencode.specs.declared.value.Value.TheVariants as value;
-ghost use Rattle.kad_krpc.specs.Fields.{pair, IsCarried};
-ghost use Rattle.kad_krpc.specs.Asking.{is_word, names, want_of, want_pair, two_ids, port_by, announced_by, find_node_at, get_peers_at, announce_peer_at, get_at, put_by, put_at, rest_at, arguments_at, ask_of, arguments_read, method_in, is_read_only, is_implied, announced, proof_pair, put_pairs, arguments_of, name_of, CarriesForm, read_only_pair, ask_seen, ask_outcome, IsWellPort, IsWellAsk};
+ghost use Rattle.kad_krpc.specs.declared.message.Key.{Key};
+ghost use Rattle.kad_krpc.specs.declared.message.Method.{Method};
+ghost use Rattle.kad_krpc.specs.Fields.{needed, id_of, pair, IsCarried};
+ghost use Rattle.kad_krpc.specs.Asking.{is_word, names, want_of, want_pair, two_ids, port_by, announced_by, announce_peer_at, put_by, put_at, asked_at, arguments_at, ask_of, arguments_read, method_in, is_read_only, is_implied, announced, proof_pair, put_pairs, arguments_of, name_of, CarriesForm, read_only_pair, ask_seen, ask_outcome, IsWellPort, IsWellAsk};
 ghost use Rattle.kad_records.specs.Records.{IsWellId};
 
 use crate::fields::{
@@ -130,30 +132,37 @@ fn read_want(value: Option<Piece>) -> Want
     }
 }
 
-/// The values of a key and of `want`, found in one pass. The call is inlined, since the key is known there.
+/// The values of `id`, of a key and of `want`, found in one pass. The call is inlined, since the key is known there.
 #[inline(always)]
-fn sought<'a>(a: &Piece<'a>, key: &'a [u8]) -> (Option<Piece<'a>>, Option<Piece<'a>>)
-    ensures sought { result.0 ≡ member_of a.now key.now }
-    ensures want { result.1 ≡ member_of a.now (codes "want") }
+fn sought<'a>(
+    a: &Piece<'a>,
+    key: &'a [u8],
+) -> (Option<Piece<'a>>, Option<Piece<'a>>, Option<Piece<'a>>)
+    ensures id { result.0 ≡ member_of a.now (codes "id") }
+    ensures sought { result.1 ≡ member_of a.now key.now }
+    ensures want { result.2 ≡ member_of a.now (codes "want") }
 {
-    let (sought, slots) = members(a, keys!(key, b"want")).take();
+    let (id, slots) = members(a, keys!(b"id", key, b"want")).take();
+    let (sought, slots) = slots.take();
     let (want, _) = slots.take();
-    (sought, want)
+    (id, sought, want)
 }
 
-fn read_find_node<'a>(a: &Piece<'a>, id: Id) -> Result<AskView<'a>, KrpcFault>
-    ensures { ask_outcome result ≡ find_node_at (member_of a.now) id }
+fn read_find_node<'a>(a: &Piece<'a>) -> Result<AskView<'a>, KrpcFault>
+    ensures { ask_outcome result ≡ asked_at Method.FindNode (member_of a.now) }
 {
-    let (target, want) = sought(a, b"target");
+    let (id, target, want) = sought(a, b"target");
+    let id = needed_id(id, Key::Id)?;
     let target = needed_id(target, Key::Target)?;
     let want = read_want(want);
     Ok(AskView::FindNode { id, target, want })
 }
 
-fn read_get_peers<'a>(a: &Piece<'a>, id: Id) -> Result<AskView<'a>, KrpcFault>
-    ensures { ask_outcome result ≡ get_peers_at (member_of a.now) id }
+fn read_get_peers<'a>(a: &Piece<'a>) -> Result<AskView<'a>, KrpcFault>
+    ensures { ask_outcome result ≡ asked_at Method.GetPeers (member_of a.now) }
 {
-    let (info_hash, want) = sought(a, b"info_hash");
+    let (id, info_hash, want) = sought(a, b"info_hash");
+    let id = needed_id(id, Key::Id)?;
     let info_hash = needed_id(info_hash, Key::InfoHash)?;
     let want = read_want(want);
     Ok(AskView::GetPeers {
@@ -196,10 +205,11 @@ fn read_announce_peer<'a>(a: &Piece<'a>, id: Id) -> Result<AskView<'a>, KrpcFaul
     )
 }
 
-fn read_get<'a>(a: &Piece<'a>, id: Id) -> Result<AskView<'a>, KrpcFault>
-    ensures { ask_outcome result ≡ get_at (member_of a.now) id }
+fn read_get<'a>(a: &Piece<'a>) -> Result<AskView<'a>, KrpcFault>
+    ensures { ask_outcome result ≡ asked_at Method.Get (member_of a.now) }
 {
-    let (target, want) = sought(a, b"target");
+    let (id, target, want) = sought(a, b"target");
+    let id = needed_id(id, Key::Id)?;
     let target = needed_id(target, Key::Target)?;
     let want = read_want(want);
     Ok(AskView::Get { id, target, want })
@@ -256,17 +266,25 @@ fn method_of(name: &[u8]) -> Option<Method>
     None
 }
 
-/// What a method asks after who asks it.
-fn read_rest<'a>(method: Method, a: &Piece<'a>, id: Id) -> Result<AskView<'a>, KrpcFault>
-    ensures { ask_outcome result ≡ rest_at method (member_of a.now) id }
+/// Who asks.
+#[inline(always)]
+fn asker(a: &Piece) -> Result<Id, KrpcFault>
+    ensures { result ≡ needed id_of Key.Id (member_of a.now (codes "id")) }
+{
+    needed_id(a.get(b"id"), Key::Id)
+}
+
+/// Who asks, and what the method asks.
+fn read_by<'a>(method: Method, a: &Piece<'a>) -> Result<AskView<'a>, KrpcFault>
+    ensures { ask_outcome result ≡ asked_at method (member_of a.now) }
 {
     match method {
-        Method::Ping => Ok(AskView::Ping { id }),
-        Method::FindNode => read_find_node(a, id),
-        Method::GetPeers => read_get_peers(a, id),
-        Method::AnnouncePeer => read_announce_peer(a, id),
-        Method::Get => read_get(a, id),
-        Method::Put => read_put(a, id),
+        Method::Ping => Ok(AskView::Ping { id: asker(a)? }),
+        Method::FindNode => read_find_node(a),
+        Method::GetPeers => read_get_peers(a),
+        Method::AnnouncePeer => read_announce_peer(a, asker(a)?),
+        Method::Get => read_get(a),
+        Method::Put => read_put(a, asker(a)?),
     }
 }
 
@@ -288,8 +306,7 @@ fn read_arguments<'a>(
     ensures { ask_outcome result ≡ arguments_at method arguments.now }
 {
     let a = needed_dict(copied(arguments), Key::A)?;
-    let id = needed_id(a.get(b"id"), Key::Id)?;
-    read_rest(method, &a, id)
+    read_by(method, &a)
 }
 
 /// What a query asks. The arguments of a method that isn't known are not read.

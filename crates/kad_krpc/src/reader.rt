@@ -145,6 +145,7 @@ pub struct Decoded<'a> {
 
 /// Reads a datagram of any length where it stands: the value that it spells and what that says, or the first step of the
 /// reading that fails. Keys that BEP 5 and BEP 43 don't name are passed over. Takes no memory.
+#[inline(always)]
 pub fn decode_top(bytes: &[u8]) -> Result<Decoded<'_>, KrpcFault>
     ensures spells { IfOk result (λ s. Spells bytes.now s.top) }
     // What is read is said so, and what is refused fails so.
@@ -165,6 +166,7 @@ pub fn decode_top(bytes: &[u8]) -> Result<Decoded<'_>, KrpcFault>
 
 /// Reads a datagram of any length where it stands: what it says, or the first step of the reading that fails. Keys that
 /// BEP 5 and BEP 43 don't name are passed over. Takes no memory.
+#[inline(always)]
 pub fn decode_view(bytes: &[u8]) -> Result<View<'_>, KrpcFault>
     // What is read is said so, and what is refused fails so.
     ensures says { IfOk result (λ v. Says bytes.now (message_seen v)) }

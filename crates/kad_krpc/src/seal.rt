@@ -15,6 +15,9 @@ use kad_base::{Bytes, List, NoMemory};
 use kad_bencode::{Piece, place_for, put_part};
 use std::alloc::Global;
 
+/// Most replies have at most this many bytes, so that no more are copied for their tag.
+const SHORT: usize = 512;
+
 /// A tagged datagram, taken apart.
 #[derive(Debug, Drop)]
 pub struct SealParts {
@@ -90,8 +93,14 @@ pub fn tag_into(buf: &mut [u8; 4096], len: usize, tag: &[u8]) -> Option<usize>
     ensures text { IfSome result (λ n. (pairs : List (Pair Value))
         → IsUntagged (take len buf.old) pairs → take n buf.new ≡ tagged pairs tag.now) }
 {
-    let untagged = *buf;
-    let end = put_tagged(buf, &untagged[..len], tag);
+    let end = if len <= SHORT {
+        let mut untagged = [0u8; SHORT];
+        untagged[..len].copy_from_slice(&buf[..len]);
+        put_tagged(buf, &untagged[..len], tag)
+    } else {
+        let untagged = *buf;
+        put_tagged(buf, &untagged[..len], tag)
+    };
     if end > 4096 {
         return None;
     }

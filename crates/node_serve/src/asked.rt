@@ -55,6 +55,7 @@ fn query_in<'a>(from: Addr, ip: [u8; 4], view: View<'a>) -> Option<Asked<'a>>
 
 /// The query that a datagram is, where it is answered: not one of more than 4,096 bytes, from port 0 or an IPv6 address,
 /// nor with a transaction id of more than 32 bytes. Takes no memory.
+#[inline(always)]
 pub fn read_query<'a>(from: Addr, bytes: &'a [u8]) -> Option<Asked<'a>>
     ensures query { MatchOption result (IsSilent from bytes.now) (IsAsked from bytes.now) }
     ensures silent { IsSilent from bytes.now → IsNone result }

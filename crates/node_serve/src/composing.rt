@@ -135,6 +135,7 @@ fn item_found(
 }
 
 /// The reply to a query that came at this moment, under its transaction id, from what its calls gave. It makes no call.
+#[inline(always)]
 pub(crate) fn compose(
     alloc: Global,
     setting: &ServeSetting,

@@ -135,6 +135,7 @@ fn plan_put(
 
 /// What a query that came at this moment, in milliseconds, wants. It makes no call. Only an item that is put, and isn't
 /// refused by its token, as mutable or for its length, takes memory: its written form is made.
+#[inline(always)]
 pub(crate) fn plan(
     alloc: Global,
     setting: &ServeSetting,

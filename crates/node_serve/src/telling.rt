@@ -65,6 +65,7 @@ fn vouched(c1: u8, c2: u8, contact: Contact, proof: Option<Proof>) -> Option<Tab
 /// The call that tells the table who asked by a method of BEP 5 (Kademlia, 2002, section 2.2), where it is told: not of who is
 /// read-only, and where the policy asks for puzzles only of whoever brings a proof that solves them. `get` and `put` (BEP 44)
 /// and queries of other names tell it nothing. The proof is read, and then hashed, only where all else is met.
+#[inline(always)]
 pub(crate) fn notify_for(policy: Policy, asked: &Asked) -> Option<TableCall>
     ensures { result ≡ notify_by policy asked.now.read_only (proof_of asked.now.arguments)
         (ask_seen asked.now.ask) asked.now.from }

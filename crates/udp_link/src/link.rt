@@ -1,5 +1,6 @@
 //! The link: its socket, its moment and its faults.
-ghost use Rattle.std.specs.Prelude.{ℕ, ◌≡◌, ◌↔◌, ◌≤◌, ◌^◌, ◌<◌, length, None, IfOk, IfSome, IsTrue};
+ghost use Rattle.std.specs.Prelude.{ℕ, ◌≡◌, ◌↔◌, ◌≤◌, ◌-◌, ◌*◌, ◌^◌, ◌<◌, length, None, IfOk, IfSome, IsTrue};
+ghost use Rattle.std.specs.Duration.{as_nanos};
 ghost use Rattle.std.specs.IoError.{error_kind};
 ghost use Rattle.kad_base.specs.Outside.{Arrives, came_at};
 ghost use Rattle.udp_link.specs.Waking.{IsWake};
@@ -15,7 +16,7 @@ use std::marker::Model;
 use std::net::UdpSocket;
 use std::os::fd::{AsRawFd, RawFd};
 use std::rt::{Clock, Net};
-use std::time::Instant;
+use std::time::{Duration, Instant};
 
 /// The last moment that a link tells, in milliseconds.
 const LAST_MOMENT: u64 = (1 << 62) - 1;
@@ -25,6 +26,10 @@ const STANDARD_INPUT: RawFd = 0;
 
 /// How often a receive that the system ended before its time is tried again.
 const EARLY_WAKES: u32 = 1_000;
+
+/// How long the first wait of a receive is where twice as much or more lies between the moment that was told last and the one to
+/// which it waits, in milliseconds. For such a wait the clock needn't be read: what is left behind it is computed when it is over.
+const FIRST_WAIT: u64 = 30_000;
 
 /// After so many sends without a receive between, what has come meanwhile is taken into the room, and then after as many again.
 const SENDS_AT_ONCE: u32 = 16;
@@ -103,14 +108,26 @@ impl<'a, R: Clock> UdpLink<'a, R> {
         Ok(elapsed.min(LAST_MOMENT).max(self.last))
     }
 
+    /// How long a receive to this moment waits at once: as long as is left, or at first, where much is, for half a minute.
+    #[inline(always)]
+    fn left(&self, until: u64, first: bool) -> io::Result<Option<Duration>>
+        ensures { IfOk result (λ left. IfSome left
+            (λ wait. as_nanos wait ≤ (until - self.now.moment) * 1_000_000)) }
+    {
+        if first && until.saturating_sub(self.last) >= 2 * FIRST_WAIT {
+            return Ok(Some(Duration::from_millis(FIRST_WAIT)));
+        }
+        Ok(time_left(until, self.read_clock()?))
+    }
+
     /// Asks the socket once, for the time that is left; `None` if the system ended the wait before its time.
-    fn ask(&mut self, buf: &mut [u8], until: u64) -> io::Result<Option<Came>>
+    fn ask(&mut self, buf: &mut [u8], until: u64, first: bool) -> io::Result<Option<Came>>
         ensures came { IfOk result (λ asked. IfSome asked
             (λ came. Arrives came until self.old.moment (length buf.old))) }
         ensures ends { IfOk result (λ asked. IfSome asked (λ came. came_at came < 2 ^ 62)) }
         ensures same { self.new ≡ self.old }
     {
-        let left = time_left(until, self.read_clock()?);
+        let left = self.left(until, first)?;
         match self.socket.recv_from(buf, left) {
             Ok((len, from)) => {
                 let at = self.read_clock()?;
@@ -131,8 +148,8 @@ impl<'a, R: Clock> UdpLink<'a, R> {
         ensures ends { IfOk result (λ came. came_at came < 2 ^ 62) }
         ensures same { self.new ≡ self.old }
     {
-        for _ in 0..=EARLY_WAKES {
-            match self.ask(buf, until) {
+        for i in 0..=EARLY_WAKES {
+            match self.ask(buf, until, i == 0) {
                 Ok(Some(came)) => return Ok(came),
                 Ok(None) => {}
                 Err(_) => return Err(Failed),
