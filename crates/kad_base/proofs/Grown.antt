@@ -1,7 +1,7 @@
 -- A content that is told, which two calls in turn added to, or took from: what both did, in order.
 use Rattle.std.proofs.Common.{◌≡◌, List, ◌++◌, [], Option, Some, None, refl, sym, ap, ◌∙◌}
 use Rattle.std.proofs.lemmas.List.{append_assoc, append-nil}
-use Rattle.kad_base.specs.Outside.{Added, Grows, Shrinks}
+use Rattle.kad_base.specs.Outside.{Added, Grows}
 
 -- what two calls added, one after the other
 pub added_then : {A : Type 0} (a b : Option (List A)) (l : List A) (P Q R : List A → Type 0) → Grows a b P → Added b l Q → ((t u : List A) → P t → Q u → R (t ++ u)) → Added a l R
