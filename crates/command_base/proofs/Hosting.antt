@@ -6,7 +6,7 @@ use Rattle.command_base.specs.declared.status.Status.{Status}
 use Rattle.command_base.specs.declared.status.Status.TheVariants.{LinkFault}
 use Rattle.command_base.specs.Endings.{number_of}
 use Rattle.command_base.specs.Input.{IsGood}
-use Rattle.command_base.specs.Promise.{HostCause, HostsWell, IsOneOf, host_aim, judge_aim, reading}
+use Rattle.command_base.specs.Promise.{HostCause, HostsWell, IsOneOf, host_aim, reading}
 use Rattle.command_base.specs.Shown.{Shown}
 use Rattle.command_base.proofs.Exactly.{lines_apart, lines_good}
 use Rattle.command_base.proofs.Lawful.{Lawful}

@@ -10,7 +10,7 @@ use Rattle.kad_base.specs.declared.types.Report.{Report}
 use Rattle.kad_base.specs.declared.types.Policy.{Policy}
 use Rattle.kad_base.specs.Outside.{Shrinks}
 use Rattle.command_base.specs.Written.{IsFront}
-use Rattle.command_base.specs.Input.{ReadsAtMost, ReadsTooMuch, IsAdmitted, Admits, AdmitsOne, IsKept, Keeps, KeepsOne}
+use Rattle.command_base.specs.Input.{ReadsAtMost, IsAdmitted, Admits, AdmitsOne, IsKept, Keeps, KeepsOne}
 
 pub front : (all : List ℕ) (n : ℕ) (t u : List ℕ) → t ≡ take n all → u ≡ [] → IsFront (t ++ u) all
 front all n t u p q = (drop n all, ap (λ l. (t ++ l) ++ drop n all) q ∙ ap (λ l. l ++ drop n all) (append-nil t ∙ p) ∙ take-append-drop n all)

@@ -1,11 +1,11 @@
 -- The values of the words are within the limits.
 use Rattle.std.proofs.Common.{ℕ, ◌≤◌, Option, Some, None, arith}
 use Rattle.kad_base.specs.declared.types.Id.{Id}
-use Rattle.kad_words.specs.Table.{Word, bits_option, k_option, Values, IsLookAt, NumberOf}
+use Rattle.kad_words.specs.Table.{Word, Values, IsLookAt}
 use Rattle.kad_text.specs.Text.{SpellsNumber}
 use Rattle.kad_words.specs.declared.command.LookWords.{LookWords}
 use Rattle.kad_words.specs.Values.{IsGivenOr}
-use Rattle.command_base.specs.Started.{AreTableBounds, IsInRange}
+use Rattle.command_base.specs.Started.{IsInRange}
 
 pub record Within (least most n : ℕ) : Type 0 where
   pub above : least ≤ n

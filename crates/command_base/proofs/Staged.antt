@@ -1,6 +1,6 @@
 -- What a command does behind its input keeps laws of its own; then the command that reads it keeps those of every promise.
 -- So does a command that reads nothing.
-use Rattle.std.proofs.Common.{◌≡◌, ℕ, List, [], IsTrue, inl, inr, refl, true≢false, sym}
+use Rattle.std.proofs.Common.{◌≡◌, ℕ, List, IsTrue, inl, inr, refl, true≢false, sym}
 use Rattle.kad_base.specs.declared.types.Event.{Event}
 use Rattle.command_base.specs.declared.status.Status.{Status}
 use Rattle.command_base.specs.declared.status.Status.TheVariants.{BadLine, SourceFault, Strays, NoSeeds, NoMemory, Unminted, TooLong, Unsound}

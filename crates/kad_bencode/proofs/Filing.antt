@@ -3,8 +3,7 @@ use Rattle.std.proofs.Common.{◌≡◌, ℕ, zero, suc, ◌+◌, ◌-◌, ◌�
 use Rattle.std.specs.Ordering.{is_eq}
 use Rattle.std.specs.declared.cmp.Ordering.TheVariants.{Greater}
 use Rattle.std.proofs.lemmas.Cmp.{nat_list_cmp_total}
-use Rattle.std.proofs.lemmas.List.{length-drop, length-take-le, take-append-le, take_all, take_more, take_more_set, take-take, drop-take, drop-append-le, get_or_append_left, get_or_push}
-use Rattle.std.proofs.Math.ListN.{set}
+use Rattle.std.proofs.lemmas.List.{length-drop, take-append-le, take_all, take_more, take-take, drop-take, get_or_append_left, get_or_push}
 use Rattle.kad_bencode.specs.Keys.{key_cmp}
 use Rattle.kad_bencode.specs.Spelling.{string_text, has_key}
 use Rattle.kad_bencode.specs.Faults.{Open, IsAt}

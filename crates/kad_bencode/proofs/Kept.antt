@@ -1,14 +1,14 @@
 -- Values by what their types keep.
-use Rattle.std.proofs.Common.{◌≡◌, ◌≤◌, ℕ, true, List, [], ◌∷◌, map, length, drop, ℤ, refl, sym, ap, subst, ◌∙◌}
+use Rattle.std.proofs.Common.{◌≡◌, ◌≤◌, ℕ, true, List, [], ◌∷◌, map, length, drop, refl, sym, ap, subst, ◌∙◌}
 use Rattle.std.proofs.lemmas.List.{drop_all}
 use Rattle.std.specs.List.{AllByRecursion}
 use Rattle.kad_bencode.specs.Built.{IsWellBuilt}
 use Rattle.kad_bencode.specs.Keys.{keys_of, IsAscending}
-use Rattle.kad_bencode.specs.Spelling.{all_true, each_once, in_order, is_i64, is_plain, put_all, values_of}
+use Rattle.kad_bencode.specs.Spelling.{all_true, each_once, in_order, is_plain, put_all, values_of}
 use Rattle.kad_bencode.specs.declared.entries.Pair.{Pair}
 use Rattle.kad_bencode.specs.declared.value.Value.{Value}
 use Rattle.kad_bencode.specs.declared.value.Value.TheVariants as value
-use Rattle.kad_bencode.proofs.Folds.{is_plain-int, is_plain-text, is_plain-list, is_plain-dict, in_order-int, in_order-text, in_order-list, in_order-dict}
+use Rattle.kad_bencode.proofs.Folds.{is_plain-list, is_plain-dict, in_order-list, in_order-dict}
 use Rattle.kad_bencode.proofs.Limits.{and_both}
 use Rattle.kad_bencode.proofs.Ordered.{once_ascending, ordered_same, put_all_ascending}
 

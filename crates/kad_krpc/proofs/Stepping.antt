@@ -7,12 +7,12 @@ use Rattle.std.specs.Bool.{Decides}
 use Rattle.std.proofs.lemmas.Slice.Eq.{bytes_eq-Decides}
 use Rattle.kad_base.specs.declared.types.Id.{Id}
 use Rattle.kad_bencode.specs.Keys.{value_of}
-use Rattle.kad_bencode.specs.Parts.{bytes_of, bytes_in, integer_of, integer_in, list_of, list_in, dict_of, dict_in, member_of, member_in}
+use Rattle.kad_bencode.specs.Parts.{bytes_of, bytes_in, integer_of, integer_in, list_of, list_in, dict_of, dict_in, member_in}
 use Rattle.kad_bencode.specs.declared.entries.Pair.{Pair}
 use Rattle.kad_bencode.specs.declared.value.Value.{Value}
 use Rattle.kad_bencode.specs.declared.value.Value.TheOpen as layer
 use Rattle.kad_bencode.specs.declared.value.Value.TheOpen.{Value-F}
-use Rattle.kad_bencode.specs.declared.value.Value.TheViews.{out-Value, out-roll-Value}
+use Rattle.kad_bencode.specs.declared.value.Value.TheViews.{out-roll-Value}
 use Rattle.kad_bencode.specs.declared.value.Value.TheVariants.{Int, Text, List as Values, Dict, rolls-Int, rolls-Text, rolls-List, rolls-Dict}
 use Rattle.kad_krpc.specs.declared.message.Key.{Key}
 use Rattle.kad_krpc.specs.declared.message.KrpcFault.TheVariants.{Bad, Missing, Shape, Records, NoMemory}

@@ -1,9 +1,9 @@
 -- The groups of an IPv6 address: where a text has them, and that it has them in one way.
-use Rattle.std.proofs.Common.{◌≡◌, ℕ, zero, suc, ◌+◌, ◌*◌, ◌<◌, ◌≤◌, inl, inr, List, [], ◌∷◌, ◌++◌, length, take, drop, get_or, set, length-set, refl, sym, ap, ap₂, ◌∙◌, subst, arith}
+use Rattle.std.proofs.Common.{◌≡◌, ℕ, zero, suc, ◌+◌, ◌*◌, ◌<◌, ◌≤◌, inl, inr, List, [], ◌∷◌, ◌++◌, length, take, drop, get_or, set, length-set, refl, sym, ap, ◌∙◌, arith}
 use Rattle.std.specs.Prelude.{codes}
 use Rattle.std.specs.Char.{to_ascii_lowercase}
 use Rattle.std.specs.Str.{str_to_ascii_lowercase}
-use Rattle.std.proofs.lemmas.List.{append_assoc, append-nil, drop_more, drop-map, get_or-map, length-append, length-map, map-append, take-map, take_all, take_more_set}
+use Rattle.std.proofs.lemmas.List.{append_assoc, append-nil, drop_more, drop-map, get_or-map, length-append, length-map, take-map, take_all, take_more_set}
 use Rattle.hex.specs.Hex.{IsBytes, encode_lower, encode_with}
 use Rattle.kad_text.specs.Groups.{IsMark, SpellsGroup, SpellsGroups}
 use Rattle.kad_text.specs.Text.{SpellsHex, groups_after}

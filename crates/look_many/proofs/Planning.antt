@@ -1,8 +1,8 @@
 -- Which queries follow: what is planned of what the driver keeps is what the events tell, and what the outcomes say.
-use Rattle.std.proofs.Common.{◌≡◌, ℕ, suc, ◌+◌, ◌*◌, ◌<◌, ◌≤◌, List, [], ◌∷◌, ◌++◌, length, get_or, drop, false, refl, sym, ap, subst, ◌∙◌, arith}
+use Rattle.std.proofs.Common.{◌≡◌, ℕ, suc, ◌+◌, ◌*◌, ◌<◌, ◌≤◌, List, [], ◌∷◌, ◌++◌, length, drop, false, refl, sym, ap, subst, ◌∙◌, arith}
 use Rattle.std.specs.Prelude.{map, reverse}
 use Rattle.std.specs.List.{AllByRecursion, AllZip, flat_map}
-use Rattle.std.proofs.lemmas.List.{append-nil, append_assoc, drop_all, drop_more, length-append, length-map, reverse-append}
+use Rattle.std.proofs.lemmas.List.{append-nil, append_assoc, drop_all, length-append, length-map, reverse-append}
 use Rattle.kad_base.specs.declared.types.Id.{Id}
 use Rattle.kad_base.specs.declared.types.Contact.{Contact}
 use Rattle.kad_base.specs.Contacts.{without}
@@ -13,7 +13,6 @@ use Rattle.claim_book.specs.Journal.{took, failed}
 use Rattle.claim_book.specs.Result.{result_of}
 use Rattle.lookup_core.specs.declared.gather.Gathered.{Gathered}
 use Rattle.lookup_core.specs.declared.gather.Token.{Token}
-use Rattle.lookup_core.specs.declared.quest.Quest.{Quest}
 use Rattle.lookup_core.specs.Gathered.{Keeping, token_of}
 use Rattle.lookup_core.specs.Reply.{Answered}
 use Rattle.lookup_core.proofs.Lists.{all_append}
@@ -21,15 +20,10 @@ use Rattle.follow_ups.specs.Announced.{announcement, announcements, announcing, 
 use Rattle.follow_ups.specs.declared.announce.Said.TheVariants.{Peer}
 use Rattle.follow_ups.proofs.Announcing.{few_tokens, may_write}
 use Rattle.follow_ups.specs.declared.announce.Announcement.{Announcement}
-use Rattle.contact_table.specs.TableState.{TableState}
-use Rattle.node_serve.specs.declared.setting.ServeSetting.{ServeSetting}
 use Rattle.lookup_crowd.specs.declared.due.FollowUp.{FollowUp}
 use Rattle.lookup_crowd.specs.declared.seeker.Seeker.{Seeker}
 use Rattle.lookup_crowd.specs.Mine.{Mine, Whose}
 use Rattle.lookup_crowd.specs.inner.Crowd.{whose, KeepsMine}
-use Rattle.lookup_crowd.specs.inner.Going.{Lives}
-use Rattle.lookup_crowd.proofs.Zips.{zip_then}
-use Rattle.look_many.specs.declared.found.ManySetting.{ManySetting}
 use Rattle.look_many.specs.declared.found.One.{One}
 use Rattle.look_many.specs.declared.job.Job.{Job}
 use Rattle.look_many.specs.declared.job.Job.TheVariants.{Find, Peers, Announce, Get, Put}
@@ -37,7 +31,7 @@ use Rattle.look_many.specs.Job.{MaySayOf, kind_of, may_owe, owed_for}
 use Rattle.look_many.specs.Planned.{by, follow_ups, follows_read}
 use Rattle.look_many.specs.inner.Following.{IsSayable}
 use Rattle.look_many.specs.inner.Kept.{owed_of, follows_kept}
-use Rattle.look_many.specs.inner.Seats.{IsSeekerFor, IsDone, IsHanded}
+use Rattle.look_many.specs.inner.Seats.{IsDone, IsHanded}
 
 -- ---- the plan
 

@@ -1,5 +1,5 @@
 -- From a lookup to the command that asked for it.
-use Rattle.std.proofs.Common.{◌≡◌, ◌≢◌, ℕ, List, [], length, inl, refl, sym, ap, subst, ◌∙◌}
+use Rattle.std.proofs.Common.{◌≡◌, ◌≢◌, ℕ, List, [], length, inl, refl, ap, subst, ◌∙◌}
 use Rattle.std.specs.Prelude.{false, map}
 use Rattle.std.specs.List.{All}
 use Rattle.kad_base.specs.declared.types.Contact.{Contact}
@@ -22,14 +22,14 @@ use Rattle.lookup_run.specs.declared.types.LookSetting.{LookSetting}
 use Rattle.lookup_core.specs.declared.quest.AskKind.{AskKind}
 use Rattle.lookup_run.specs.declared.types.Outcome.{Outcome}
 use Rattle.lookup_run.specs.Tells.{Given, HasFewStrays, NeverEnds}
-use Rattle.lookup_run.specs.Lookup.{IsWithinLimits, given_of, TableTold, TellsEarly, Unfinished, EndsByStrays, MeetsFewStrays}
+use Rattle.lookup_run.specs.Lookup.{given_of, TableTold, TellsEarly, Unfinished, EndsByStrays, MeetsFewStrays}
 use Rattle.kad_words.specs.declared.command.LookWords.{LookWords}
 use Rattle.command_base.specs.Printed.{printed, printed_of}
 use Rattle.command_base.specs.Shown.{Shown}
 use Rattle.command_base.specs.Input.{Reads}
 use Rattle.command_base.specs.Started.{look_of, book_of, drawn_of, IsInRange, seen_call, Start}
 use Rattle.lookup_commands.specs.Looked.{LookupBegun, EndsByLastStray, MeetsFew}
-use Rattle.command_base.proofs.Starting.{usable_told, admits_usable, within_limits}
+use Rattle.command_base.proofs.Starting.{usable_told, admits_usable}
 use Rattle.command_base.specs.Called.{Called}
 
 pub text_is : (s : Setting) (o : Outcome) (text : List ℕ) → o.found ≡ result_of s o.journal → o.counts.asked ≡ length (asked o.journal) → o.counts.failed ≡ length (failed o.journal) → o.counts.turned ≡ length (turned o.journal) → text ≡ printed o.found o.counts.asked o.counts.failed o.counts.turned → text ≡ printed_of s o.journal

@@ -1,5 +1,5 @@
 -- What the book is told of a reply.
-use Rattle.std.proofs.Common.{◌≡◌, ◌≢◌, ◌≤◌, List, map, length, take, Option, inl, inr, refl, ap, ◌∙◌, arith}
+use Rattle.std.proofs.Common.{◌≡◌, ◌≤◌, List, map, length, take, Option, inl, refl, ap, ◌∙◌, arith}
 use Rattle.std.proofs.lemmas.List.{length-map, length-take}
 use Rattle.kad_base.specs.declared.types.Contact.{Contact}
 use Rattle.kad_base.specs.declared.types.Report.{Report}
@@ -11,8 +11,7 @@ use Rattle.kad_base.specs.Limits.{max_reports}
 use Rattle.kad_krpc.specs.declared.answer.AnswerView.{AnswerView}
 use Rattle.kad_krpc.specs.declared.message.Answer.{Answer}
 use Rattle.kad_krpc.specs.Views.{answer_seen}
-use Rattle.claim_book.specs.declared.types.Cause.TheVariants.{WrongId, Error}
-use Rattle.claim_book.specs.declared.types.Entry.TheVariants.{Heard, Lost}
+use Rattle.claim_book.specs.declared.types.Entry.TheVariants.{Heard}
 use Rattle.claim_book.specs.Calls.{asker}
 use Rattle.claim_book.specs.State.{BookState, added}
 use Rattle.lookup_core.specs.declared.on_reply.Taken.TheVariants as taken

@@ -1,14 +1,12 @@
 -- How long a receive waits, and whether its round goes on.
-use Rattle.std.proofs.Common.{◌≡◌, ◌≢◌, ℕ, zero, suc, ◌+◌, ◌<◌, ◌≤◌, List, [], ◌∷◌, length, Option, Some, None, refl, sym, ap, subst, arith}
+use Rattle.std.proofs.Common.{◌≡◌, ℕ, ◌≤◌, List, [], ◌∷◌, Option, Some, None, refl, sym, subst}
 use Rattle.std.specs.Prelude.{Contains, map, slice_get, IfSome, IsNone, ◌↔◌}
 use Rattle.std.specs.Option.{option_map}
 use Rattle.std.specs.List.{All, AllByRecursion}
-use Rattle.std.proofs.lemmas.Bool.Decides.{nat_tests}
 use Rattle.std.proofs.lemmas.List.Elements.{recursion_from_All}
-use Rattle.kad_base.specs.Limits.{max_round_receives}
 use Rattle.query_book.specs.declared.Query.{Query}
-use Rattle.lookup_core.specs.Receiving.{IsEarliest, IsSoonest, WaitsUntil, goes_on}
-use Rattle.lookup_core.proofs.Lists.{none_in, in_first}
+use Rattle.lookup_core.specs.Receiving.{IsSoonest}
+use Rattle.lookup_core.proofs.Lists.{in_first}
 
 least_map : (d : ℕ) (qs : List Query) → AllByRecursion (λ (q : Query). d ≤ q.deadline) qs → AllByRecursion (λ (n : ℕ). d ≤ n) (map (λ (q : Query). q.deadline) qs)
 least_map d [] h = tt

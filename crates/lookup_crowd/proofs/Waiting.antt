@@ -1,8 +1,8 @@
 -- The time passes for all lookups, and how long the next receive waits.
 use Rattle.std.proofs.Common.{◌≡◌, ◌⊎◌, ℕ, ◌+◌, ◌<◌, ◌≤◌, List, [], ◌∷◌, ◌++◌, length, get_or, take, drop, set, min, Option, Some, None, inl, inr, sym, ap, subst, ◌∙◌, arith}
 use Rattle.std.specs.Prelude.{Contains, map}
-use Rattle.std.specs.List.{AllByRecursion, AllZip}
-use Rattle.std.proofs.lemmas.List.{append-nil, take_more, take_more_set, drop_more, drop-set-lt, take_all, length-set, flat_map_more}
+use Rattle.std.specs.List.{AllZip}
+use Rattle.std.proofs.lemmas.List.{append-nil, take_more, take_more_set, drop_more, drop-set-lt, length-set, flat_map_more}
 use Rattle.std.proofs.lemmas.List.Elements.{AllZip-push}
 use Rattle.query_book.specs.declared.Query.{Query}
 use Rattle.serve_crew.specs.Hands.{Hands, SameHands}
@@ -10,9 +10,9 @@ use Rattle.serve_crew.proofs.Growing.{same_more}
 use Rattle.lookup_core.proofs.Lists.{map_append, all_append, all_weaker}
 use Rattle.lookup_crowd.specs.declared.seeker.Seeker.{Seeker}
 use Rattle.lookup_crowd.specs.Many.{IsEarliest}
-use Rattle.lookup_crowd.specs.inner.Crowd.{Holding, queries_of, Ran}
+use Rattle.lookup_crowd.specs.inner.Crowd.{queries_of, Ran}
 use Rattle.lookup_crowd.specs.inner.ManySteps.{Expires, lapsed, all_lapsed, sooner_of, IsSoonest}
-use Rattle.lookup_crowd.proofs.Lists.{all_at, in_left, in_right}
+use Rattle.lookup_crowd.proofs.Lists.{in_left, in_right}
 use Rattle.lookup_crowd.proofs.Hosting.{ran_then}
 
 -- ---- all expire

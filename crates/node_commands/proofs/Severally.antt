@@ -22,14 +22,13 @@ use Rattle.claim_book.proofs.Claims.{took_distinct, asked_distinct}
 use Rattle.claim_book.proofs.Ends.{found_answered}
 use Rattle.claim_book.proofs.Hosted.{has_few}
 use Rattle.lookup_run.specs.Lookup.{TableTold}
-use Rattle.node_serve.specs.Calls.{IsSetting}
 use Rattle.node_serve.specs.declared.lasting.Lasting.{Lasting}
 use Rattle.node_serve.specs.declared.setting.ServeSetting.{ServeSetting}
 use Rattle.node_tokens.specs.Tokens.{TokensState, tokens_by}
 use Rattle.lookup_crowd.specs.declared.seeker.ManyFault.{ManyFault}
 use Rattle.lookup_crowd.specs.declared.seeker.ManyFault.TheVariants as fault
 use Rattle.look_many.specs.Job.{MaySayOf}
-use Rattle.look_many.specs.ManyLooked.{CountsUnsent, IsFound, IsWithinLimits, ManyLooked, ManyStopped, journals_of, setting_for}
+use Rattle.look_many.specs.ManyLooked.{CountsUnsent, IsFound, ManyLooked, ManyStopped, journals_of, setting_for}
 use Rattle.look_many.specs.declared.found.Many.{Many}
 use Rattle.look_many.specs.declared.found.ManySetting.{ManySetting}
 use Rattle.look_many.specs.declared.found.One.{One}
@@ -39,10 +38,9 @@ use Rattle.kad_words.specs.declared.command.NodeWords.{NodeWords}
 use Rattle.command_base.specs.declared.status.Status.{Status}
 use Rattle.command_base.specs.declared.status.Status.TheVariants.{LinkFault, Strays, NoSeeds, NoMemory, BadProof}
 use Rattle.command_base.specs.Called.{Called}
-use Rattle.node_commands.specs.Several.{Begun, EndsJobs, StartsCause, GivesNobody, GivesStart, HasLookedTo, HasRunOutFor, HasStopped, IsPrinted, LooksFrom, Names, NamesCause, NodeCause, NodeEnds, NodeGoesWell, NodeRan, NodeText, ShowsLastForeign, Starts, TellsJobs, each_of, lasting_of, node_aim, node_promise, server_of}
+use Rattle.node_commands.specs.Several.{Begun, EndsJobs, StartsCause, GivesNobody, GivesStart, HasLookedTo, HasRunOutFor, HasStopped, IsPrinted, LooksFrom, Names, NodeCause, NodeEnds, NodeGoesWell, NodeRan, NodeText, ShowsLastForeign, Starts, TellsJobs, each_of, lasting_of, node_aim, node_promise, server_of}
 use Rattle.command_base.specs.Endings.{number_of}
-use Rattle.node_commands.specs.declared.jobs.InputLine.TheVariants.{Nothing}
-use Rattle.node_commands.specs.JobLines.{AreGoodJobs, IsBadJob, Naming}
+use Rattle.node_commands.specs.JobLines.{AreGoodJobs, Naming}
 use Rattle.command_base.specs.Input.{Admits, Keeps, ReadsAs}
 use Rattle.kad_text.specs.Lines.{lines}
 use Rattle.node_commands.specs.JobTexts.{AreTextsOf}
@@ -52,11 +50,9 @@ use Rattle.command_base.specs.Shown.{Shown}
 use Rattle.command_base.specs.Started.{drawn_of, own_of, seen_call, IsInRange}
 use Rattle.command_base.proofs.Starting.{admits_usable, usable_told}
 use Rattle.command_base.proofs.Exactly.{added_once, admits_once, input_once}
-use Rattle.node_commands.proofs.JobLaws.{jobs_carried, jobs_once, named_or_bad, reports_once}
-use Rattle.command_base.proofs.Lawful.{Lawful}
+use Rattle.node_commands.proofs.JobLaws.{jobs_carried, jobs_once, reports_once}
 use Rattle.serve_commands.proofs.Serving.{kept_pass}
-use Rattle.command_base.proofs.Staged.{Behind, reading_lawful}
-use Rattle.command_base.proofs.Vouched.{vouched_lawful}
+use Rattle.command_base.proofs.Staged.{Behind}
 use Rattle.command_base.specs.Vouched.{Vouches}
 
 -- ---- its input

@@ -17,7 +17,7 @@ use Rattle.node_serve.specs.AnswerOf.{Answers, EndsEarly}
 use Rattle.node_serve.specs.Lasting.{end_of, is_over, waits_to}
 use Rattle.node_serve.specs.NodeState.{NodeState}
 use Rattle.node_serve.specs.Queries.{IsSilent}
-use Rattle.node_serve.specs.Receives.{ServeState, silent, answered, ServesOne, quiet, came, Serves, Unanswered, ServesAll, ServesSome, tried, is_sent, sent_in, is_got, got_in}
+use Rattle.node_serve.specs.Receives.{ServeState, silent, answered, ServesOne, quiet, came, Serves, ServesAll, ServesSome, tried, is_sent, sent_in, is_got, got_in}
 use Rattle.node_serve.specs.Sealing.{Tags}
 use Rattle.node_serve.specs.Responded.{serve_state, server_at, RespondsWith, ReceivesOne, ReceivesAll, Stops}
 

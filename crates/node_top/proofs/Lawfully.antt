@@ -1,20 +1,13 @@
 -- Each command's promise is lawful by how it is made, and the values of its words are within the limits. A command more
 -- that is made in one of these ways adds nothing here.
-use Rattle.std.proofs.Common.{ℕ, List, rules}
-use Rattle.kad_base.specs.declared.types.Report.{Report}
-use Rattle.contact_table.specs.TableState.{TableState}
+use Rattle.std.proofs.Common.{List, rules}
 use Rattle.kad_words.specs.Table.{Says, Values, Word}
 use Rattle.kad_words.specs.Plain.{CommandOf, values_of}
 use Rattle.kad_words.specs.declared.command.Command.{Command}
-use Rattle.kad_words.specs.declared.command.ServeWords.{ServeWords}
 use Rattle.kad_words.specs.declared.command.Command.TheVariants.{Lookup, Peers, Get, Put, Node, Mint}
 use Rattle.node_top.specs.Commands.{promise_of}
-use Rattle.serve_commands.specs.Served.{Hosts}
-use Rattle.command_base.specs.Input.{IsGood, Lists}
-use Rattle.command_base.specs.Shown.{Shown}
 use Rattle.command_base.proofs.Lawful.{Lawful}
 use Rattle.lookup_commands.proofs.Lawfully.{lookup_lawful, peers_lawful, get_lawful, put_lawful}
-use Rattle.command_base.proofs.Hosting.{hosting_lawful}
 use Rattle.plain_commands.proofs.Minting.{mint_lawful}
 use Rattle.command_base.proofs.Ranges.{look_in_range}
 

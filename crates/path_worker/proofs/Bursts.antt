@@ -1,23 +1,22 @@
 -- A burst grows by one thing at a time.
-use Rattle.std.proofs.Common.{◌≡◌, ℕ, ◌+◌, List, [], ◌∷◌, ◌++◌, refl, sym, ap, subst, ◌∙◌, arith, append_assoc, append-nil}
+use Rattle.std.proofs.Common.{◌≡◌, ℕ, ◌+◌, List, [], ◌∷◌, ◌++◌, sym, ap, subst, ◌∙◌, arith, append_assoc, append-nil}
 use Rattle.std.specs.List.{flat_map}
 use Rattle.std.proofs.lemmas.List.{length-append}
-use Rattle.std.proofs.lemmas.List.Elements.{All-push, All-nil}
+use Rattle.std.proofs.lemmas.List.Elements.{All-push}
 use Rattle.std.proofs.lemmas.Grind.{flat_map-append}
 use Rattle.kad_base.specs.declared.types.Contact.{Contact}
 use Rattle.kad_base.specs.declared.types.Policy.{Policy}
 use Rattle.kad_base.specs.Serial.{made}
 use Rattle.turn_book.specs.Turns.{PassState, mine}
 use Rattle.claim_book.specs.declared.calls.BookCall.TheVariants.{Pull, Note, Settle}
-use Rattle.claim_book.specs.declared.calls.BookReply.TheVariants.{Alive, Idle, Kept, Report as Report_reply}
+use Rattle.claim_book.specs.declared.calls.BookReply.TheVariants.{Alive, Kept, Report as Report_reply}
 use Rattle.claim_book.specs.CheckedState.{CheckedState}
 use Rattle.kad_base.specs.declared.types.Report.{Report}
 use Rattle.contact_table.specs.declared.calls.TableCall.{TableCall}
 use Rattle.contact_table.specs.declared.calls.TableReply.{TableReply}
 use Rattle.contact_table.specs.declared.calls.TableCall.TheVariants.{Seen}
-use Rattle.contact_table.specs.declared.calls.TableReply.TheVariants.{NoMemory}
 use Rattle.path_worker.specs.Hand.{Hand, SameHand}
-use Rattle.path_worker.specs.Burst.{noted, settled, ToldOf, SettledOf, book_calls, table_calls, IsDone, Going, Emptied, Stopped, DidOne, FoundNothing, FoundNoMemory}
+use Rattle.path_worker.specs.Burst.{noted, settled, ToldOf, SettledOf, book_calls, table_calls, IsDone, Going, DidOne}
 
 -- what grew by some, and then by others
 grows : {A B : Type 0} (f : A → List B) (old mid new ends : List B) (things : List A) → mid ≡ (old ++ flat_map f things) ++ [] → new ≡ mid ++ ends → new ≡ (old ++ flat_map f things) ++ ends

@@ -35,8 +35,6 @@ use Rattle.command_base.specs.Started.{own_of, look_of, book_of, drawn_of, looku
 use Rattle.seal_tags.specs.Seals.{is_group_tag}
 use Rattle.plain_commands.specs.Simulated.{network_of, look_to, sim_look, IsSimulable, report_of, first_nodes, Begins, count_among, sought_in, sim_text, SimText, no_key, sim_called}
 use Rattle.command_base.proofs.Starting.{admits_usable, within_limits, usable_told}
-use Rattle.kad_words.specs.Table.{alpha_option, k_option, nodes_option, paths_option, Values, NumberOf}
-use Rattle.command_base.proofs.Ranges.{within}
 
 pub sim_range : (s : Simulation) → IsSimulable s → IsInRange (sim_look s)
 sim_range s h = record {

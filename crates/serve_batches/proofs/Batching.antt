@@ -1,6 +1,6 @@
 -- One batch, and batches one after another.
 use Rattle.std.proofs.Common.{◌≡◌, ℕ, suc, ◌+◌, ◌<◌, ◌≤◌, false, List, [], ◌∷◌, ◌++◌, length, get_or, Option, inl, inr, refl, sym, ap, subst, ◌∙◌, append-nil, append_assoc, arith, All}
-use Rattle.std.specs.Prelude.{◌⊎◌, slice_index_or}
+use Rattle.std.specs.Prelude.{slice_index_or}
 use Rattle.std.specs.List.{flat_map}
 use Rattle.std.proofs.lemmas.Grind.{flat_map-append}
 use Rattle.std.proofs.lemmas.List.Elements.{All-nil, All-push}
@@ -17,10 +17,10 @@ use Rattle.node_serve.specs.declared.service.ServeFault.{ServeFault}
 use Rattle.node_serve.specs.declared.service.ServeFault.TheVariants.{NoMemory as Out_of_memory}
 use Rattle.node_serve.specs.declared.setting.ServeSetting.{ServeSetting}
 use Rattle.node_serve.proofs.Receiving.{sent_then}
-use Rattle.serve_crew.specs.Hands.{CanWork, SameHands, Grew}
+use Rattle.serve_crew.specs.Hands.{CanWork, Grew}
 use Rattle.serve_crew.specs.declared.turns.Turns.{Turns}
 use Rattle.serve_crew.proofs.Growing.{grew_none, grew_more, same_none, same_more}
-use Rattle.serve_batches.specs.Batches.{Datagram, Receives, quiet, full, over, Done, IsDone, IsBatch, IsUnanswered, Batches, receives_of, waits_after, calls_for}
+use Rattle.serve_batches.specs.Batches.{Datagram, Receives, quiet, full, over, Done, IsDone, IsBatch, Batches, receives_of, waits_after, calls_for}
 use Rattle.serve_batches.specs.Crew.{SameCrew, AllWorked, SendsAll, IsReceived, batch_datagrams, batch_slots, datagrams_of, no_datagram}
 use Rattle.serve_batches.specs.ManyServed.{EndsEarly}
 use Rattle.serve_batches.specs.Serving.{SameRoles, GrewSome, ServesBatch, ServesBatches, StopsServing}
@@ -29,7 +29,7 @@ use Rattle.serve_batches.specs.declared.batch.Progress.{Progress}
 use Rattle.serve_batches.specs.declared.receiving.Received.{Received}
 use Rattle.serve_batches.specs.declared.shift.Shift.{Shift}
 use Rattle.serve_batches.proofs.Answering.{Answered_batch}
-use Rattle.kad_base.proofs.Happening.{happens_then, happens_none, happens_weaker}
+use Rattle.kad_base.proofs.Happening.{happens_then, happens_none}
 use Rattle.serve_batches.proofs.Sending.{got_then}
 
 -- ---- what the receives of a batch are

@@ -2,7 +2,7 @@
 use Rattle.std.proofs.Common.{◌≡◌, ℕ, ◌+◌, ◌==◌, Bool, true, false, List, [], ◌∷◌, ◌++◌, length, Option, Some, None, refl, sym, ap, subst, ◌∙◌, append-nil, append_assoc, arith}
 use Rattle.std.specs.Prelude.{filter}
 use Rattle.std.proofs.lemmas.List.{length-append}
-use Rattle.std.proofs.lemmas.List.Elements.{filter-append, All-nil, All-push, All-same}
+use Rattle.std.proofs.lemmas.List.Elements.{filter-append, All-push, All-same}
 use Rattle.kad_base.specs.declared.types.Addr.{Addr}
 use Rattle.kad_base.specs.declared.types.Event.{Event}
 use Rattle.kad_base.specs.Outside.{Grows, Happens}
@@ -15,7 +15,7 @@ use Rattle.serve_batches.specs.Batches.{sent_for}
 use Rattle.serve_batches.specs.Crew.{AllWent, SendsFor, SendsAll, batch_slots, slot_at, slots_of, no_slot}
 use Rattle.serve_batches.specs.Slots.{SlotState, Went, reply_in, sends_of}
 use Rattle.serve_batches.specs.declared.shift.Shift.{Shift}
-use Rattle.kad_base.proofs.Happening.{happens_then, happens_these, happens_none}
+use Rattle.kad_base.proofs.Happening.{happens_then, happens_these}
 
 pub got_then : (es fs : List Event) → got_in (es ++ fs) ≡ got_in es + got_in fs
 got_then es fs = ap (λ (l : List Event). length l) (filter-append is_got es fs) ∙ length-append (filter is_got es) (filter is_got fs)

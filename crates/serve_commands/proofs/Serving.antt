@@ -1,5 +1,5 @@
 -- A node that serves, from the input of the command to its end.
-use Rattle.std.proofs.Common.{◌≡◌, ℕ, List, [], ◌∷◌, ◌++◌, Option, inl, inr, sym, ap, subst, ◌∙◌, arith}
+use Rattle.std.proofs.Common.{◌≡◌, ℕ, List, [], ◌∷◌, ◌++◌, Option, inl, inr, sym, ap, subst, ◌∙◌}
 use Rattle.std.specs.Prelude.{map, codes, decimal, Result, Err}
 use Rattle.std.specs.List.{All}
 use Rattle.std.proofs.lemmas.List.{append_assoc}
@@ -22,18 +22,12 @@ use Rattle.node_serve.specs.NodeState.{NodeState, new_node}
 use Rattle.node_serve.specs.Receives.{ServeState, ServesAll, ServesSome}
 use Rattle.node_serve.specs.declared.lasting.Lasting.{Lasting}
 use Rattle.kad_words.specs.declared.command.ServeWords.{ServeWords}
-use Rattle.command_base.specs.declared.status.Status.{Status}
-use Rattle.command_base.specs.declared.status.Status.TheVariants.{LinkFault}
-use Rattle.command_base.specs.Endings.{EndsUnasked as EndsBefore}
-use Rattle.command_base.specs.Input.{Lists, Admits, Keeps, IsBadContactLine}
-use Rattle.command_base.specs.Promise.{ReportsCause, HostCause, ReadingCause}
+use Rattle.command_base.specs.Input.{Lists, Admits, Keeps}
 use Rattle.serve_commands.specs.Printed.{served_text}
 use Rattle.command_base.specs.Shown.{Shown}
-use Rattle.serve_commands.specs.Served.{Hosts, begun_at, lasting_of, Served, ServedSome, AreServiceBounds}
+use Rattle.serve_commands.specs.Served.{Hosts, begun_at, lasting_of, Served, ServedSome}
 use Rattle.command_base.specs.Started.{own_of, seen_call}
 use Rattle.command_base.specs.Called.{Called}
-use Rattle.kad_words.specs.Table.{bits_option, k_option, workers_option, Values, NumberOf}
-use Rattle.command_base.proofs.Ranges.{within}
 
 -- ---- the command
 

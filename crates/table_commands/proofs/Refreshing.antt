@@ -5,20 +5,18 @@ use Rattle.contact_table.specs.SavedState.{state_of}
 use Rattle.contact_table.specs.TableState.{SoundTable, TableState}
 use Rattle.contact_table.specs.declared.saved.Saved.{Saved}
 use Rattle.kad_words.specs.declared.command.RefreshWords.{RefreshWords}
-use Rattle.table_file.specs.Reading.{IsBadLine as IsBadSavedLine}
 use Rattle.table_file.specs.SavedText.{IsSavedText}
 use Rattle.table_file.proofs.SavedOnce.{saved_once}
 use Rattle.command_base.specs.declared.status.Status.{Status}
-use Rattle.command_base.specs.declared.status.Status.TheVariants.{LinkFault, SourceFault, Strays, NoMemory, TooLong, Unsound}
+use Rattle.command_base.specs.declared.status.Status.TheVariants.{LinkFault, Strays, Unsound}
 use Rattle.command_base.specs.Endings.{number_of}
 use Rattle.table_commands.specs.Refreshing.{IsSaved, RefreshCause, RefreshesWell, Restores, RestoresNone, SavedCause, refresh_aim, refresh_promise}
 use Rattle.command_base.specs.Input.{ReadsAs}
-use Rattle.command_base.specs.Promise.{IsOneOf, ReadingCause, WholeCause}
+use Rattle.command_base.specs.Promise.{IsOneOf}
 use Rattle.command_base.specs.Shown.{Shown}
 use Rattle.command_base.specs.Called.{Called}
 use Rattle.command_base.proofs.Exactly.{input_once}
-use Rattle.command_base.proofs.Lawful.{Lawful}
-use Rattle.command_base.proofs.Staged.{Behind, reading_lawful}
+use Rattle.command_base.proofs.Staged.{Behind}
 
 -- ---- its input
 

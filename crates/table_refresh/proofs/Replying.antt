@@ -1,5 +1,5 @@
 -- What a datagram is to a ping, by what it says.
-use Rattle.std.proofs.Common.{◌≡◌, ◌≢◌, ◌^◌, ◌<◌, ℕ, List, Bool, false, sym, subst}
+use Rattle.std.proofs.Common.{◌≡◌, ◌≢◌, ◌^◌, ◌<◌, ℕ, List, Bool, sym, subst}
 use Rattle.kad_base.specs.declared.types.Addr.{Addr}
 use Rattle.query_book.specs.declared.Query.{Query}
 use Rattle.lookup_core.specs.Matching.{SaysTo}
