@@ -61,6 +61,13 @@ unread_not_bad source number told same bad =
     let empty = unread_empty source.before source.after bad.input told same bad.read in
     empty_good number (subst (λ (l : List ℕ). IsFirstBad (lines l) number) empty bad.is_bad)
 
+-- nor has it one of another kind, where an empty input is good
+pub unread_not_bad_of : (good : List ℕ → Type 0) (bad : List ℕ → ℕ → Type 0) → ((input : List ℕ) (number : ℕ) → good input → bad input number → ⊥) → good [] → (source : Shown ℕ) (number : ℕ) → source.after ≢ None
+    → source.after ≡ source.before → IsBadLine bad source number → ⊥
+unread_not_bad_of good bad apart empty_is source number told same b =
+    let empty = unread_empty source.before source.after b.input told same b.read in
+    apart [] number empty_is (subst (λ (l : List ℕ). bad l number) empty b.is_bad)
+
 -- ---- what it gives
 
 pub admits_once : (own : Id) (family : Family) (policy : Policy) (rs : List Report) (xs ys : List Contact) → Admits own family policy rs xs → Admits own family policy rs ys → xs ≡ ys

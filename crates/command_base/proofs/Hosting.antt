@@ -6,7 +6,7 @@ use Rattle.command_base.specs.declared.status.Status.{Status}
 use Rattle.command_base.specs.declared.status.Status.TheVariants.{LinkFault}
 use Rattle.command_base.specs.Endings.{number_of}
 use Rattle.command_base.specs.Input.{IsGood}
-use Rattle.command_base.specs.Promise.{HostCause, HostsWell, IsOneOf, host_aim, reading}
+use Rattle.command_base.specs.Promise.{HostCause, HostsWell, IsOneOf, host_aim, judge_aim, reading}
 use Rattle.command_base.specs.Shown.{Shown}
 use Rattle.command_base.proofs.Exactly.{lines_apart, lines_good}
 use Rattle.command_base.proofs.Lawful.{Lawful}
@@ -49,3 +49,22 @@ module _ (ranges : Type 0) (text : Called → Shown ℕ → Shown Event → List
     counts = λ none_ called source link last. last;
     restores = λ none_ source unsound. unsound;
   })
+
+pub judging_lawful : (ranges : Type 0) (text : List ℕ → Shown ℕ → List ℕ → Type 0) → ((random : List ℕ) (source : Shown ℕ) (written : List ℕ) → text random source written → IsGood source) → Lawful (reading (judge_aim ranges text))
+judging_lawful ranges text good = reading_lawful (judge_aim ranges text) (record {
+  good = λ called source link written t. lines_good source (good called.random source written t);
+  apart = lines_apart;
+  seedless = λ called source none_. absurd none_;
+  unrestored = λ source unsound. absurd unsound;
+  sound = λ called source link written told t unsound. unsound;
+  seeded = λ called source link written told t none_. none_;
+  few = λ called source link written told t last. last;
+  uncalled = λ called link told same last. last;
+  behind = λ called source link s c. absurd c;
+  well = λ called source link n. (n.told, n.reads, lines_good source (record { reports = n.reports; lists = n.lists }));
+  needed = λ called source link s n c. c;
+  in_ends = λ called source link s c. absurd c;
+  seeks = λ none_ called source no_one. no_one;
+  counts = λ none_ called source link last. last;
+  restores = λ none_ source unsound. unsound;
+})

@@ -1,11 +1,11 @@
 -- The values of the words are within the limits.
 use Rattle.std.proofs.Common.{ℕ, ◌≤◌, Option, Some, None, arith}
 use Rattle.kad_base.specs.declared.types.Id.{Id}
-use Rattle.kad_words.specs.Table.{Word, Values, IsLookAt}
+use Rattle.kad_words.specs.Table.{Word, bits_option, k_option, Values, IsLookAt, NumberOf}
 use Rattle.kad_text.specs.Text.{SpellsNumber}
 use Rattle.kad_words.specs.declared.command.LookWords.{LookWords}
 use Rattle.kad_words.specs.Values.{IsGivenOr}
-use Rattle.command_base.specs.Started.{IsInRange}
+use Rattle.command_base.specs.Started.{AreTableBounds, IsInRange}
 
 pub record Within (least most n : ℕ) : Type 0 where
   pub above : least ≤ n
@@ -32,3 +32,9 @@ look_in_range target value look h =
       some_bits = bits.above;
       few_bits = bits.below;
     }
+
+pub table_in_range : (value : Values) (k bits : ℕ) → NumberOf k_option value k → NumberOf bits_option value bits → AreTableBounds k bits
+table_in_range value k bits is_k is_bits =
+    let live = within 1 20 8 (omega arith) (omega arith) _ k is_k in
+    let split = within 1 5 1 (omega arith) (omega arith) _ bits is_bits in
+    record { some_live = live.above; few_live = live.below; some_bits = split.above; few_bits = split.below }

@@ -1,6 +1,6 @@
 -- What a command does behind its input keeps laws of its own; then the command that reads it keeps those of every promise.
 -- So does a command that reads nothing.
-use Rattle.std.proofs.Common.{◌≡◌, ℕ, List, IsTrue, inl, inr, refl, true≢false, sym}
+use Rattle.std.proofs.Common.{◌≡◌, ℕ, List, [], IsTrue, inl, inr, refl, true≢false, sym}
 use Rattle.kad_base.specs.declared.types.Event.{Event}
 use Rattle.command_base.specs.declared.status.Status.{Status}
 use Rattle.command_base.specs.declared.status.Status.TheVariants.{BadLine, SourceFault, Strays, NoSeeds, NoMemory, Unminted, TooLong, Unsound}
@@ -182,3 +182,7 @@ unread_lawful ends ranges text nothing apart ended = record {
   vouches = λ none_ random unproved. unproved;
   no_link = λ random found links. true≢false (sym links);
 }
+
+-- a text that can always be made
+pub made_lawful : (ranges : Type 0) (text : List ℕ → List ℕ → Type 0) → Lawful (unread [] ranges text (λ random. ⊥))
+made_lawful ranges text = unread_lawful [] ranges text (λ random. ⊥) (λ random written t nothing. nothing) (λ random nothing. absurd nothing)

@@ -40,7 +40,8 @@ use Rattle.command_base.specs.declared.status.Status.TheVariants.{LinkFault, Str
 use Rattle.command_base.specs.Called.{Called}
 use Rattle.node_commands.specs.Several.{Begun, EndsJobs, StartsCause, GivesNobody, GivesStart, HasLookedTo, HasRunOutFor, HasStopped, IsPrinted, LooksFrom, Names, NodeCause, NodeEnds, NodeGoesWell, NodeRan, NodeText, ShowsLastForeign, Starts, TellsJobs, each_of, lasting_of, node_aim, node_promise, server_of}
 use Rattle.command_base.specs.Endings.{number_of}
-use Rattle.node_commands.specs.JobLines.{AreGoodJobs, Naming}
+use Rattle.node_commands.specs.declared.jobs.InputLine.TheVariants.{Nothing}
+use Rattle.node_commands.specs.JobLines.{AreGoodJobs, IsBadJob, Naming}
 use Rattle.command_base.specs.Input.{Admits, Keeps, ReadsAs}
 use Rattle.kad_text.specs.Lines.{lines}
 use Rattle.node_commands.specs.JobTexts.{AreTextsOf}
@@ -49,13 +50,18 @@ use Rattle.command_base.specs.Promise.{IsOneOf, reading}
 use Rattle.command_base.specs.Shown.{Shown}
 use Rattle.command_base.specs.Started.{drawn_of, own_of, seen_call, IsInRange}
 use Rattle.command_base.proofs.Starting.{admits_usable, usable_told}
-use Rattle.command_base.proofs.Exactly.{added_once, admits_once, input_once}
-use Rattle.node_commands.proofs.JobLaws.{jobs_carried, jobs_once, reports_once}
+use Rattle.command_base.proofs.Exactly.{added_once, admits_once, input_once, unread_not_bad_of}
+use Rattle.node_commands.proofs.JobLaws.{jobs_carried, jobs_once, named_or_bad, reports_once}
+use Rattle.command_base.proofs.Lawful.{Lawful}
 use Rattle.serve_commands.proofs.Serving.{kept_pass}
-use Rattle.command_base.proofs.Staged.{Behind}
+use Rattle.command_base.proofs.Staged.{Behind, reading_lawful}
+use Rattle.command_base.proofs.Vouched.{vouched_lawful}
 use Rattle.command_base.specs.Vouched.{Vouches}
 
 -- ---- its input
+
+jobs_apart : (input : List ℕ) (number : ℕ) → AreGoodJobs input → IsBadJob input number → ⊥
+jobs_apart input number good bad = named_or_bad (lines input) good.0 good.1 number good.2 bad
 
 names_good : (source : Shown ℕ) (reports : List Report) (jobs : List Job) → Names source reports jobs → ReadsAs AreGoodJobs source
 names_good source reports jobs n = record { input = n.input; read = n.read; is_good = (reports, jobs, n.good_lines) }
@@ -169,6 +175,35 @@ module _ (look : LookWords) (lasting : Lasting) (proof : Option Proof) (called :
   no_start with_table LinkFault h = absurd h
   no_start with_table Strays h = absurd h
   no_start with_table other h = h
+
+begun_lawful : (words : NodeWords) → Lawful (reading (node_aim words.look (lasting_of words) words.proof words.table))
+begun_lawful words = reading_lawful (node_aim words.look (lasting_of words) words.proof words.table) (record {
+  good = λ called source link written t. names_good source t.ran.starts.reports t.ran.jobs t.ran.starts.names;
+  apart = jobs_apart;
+  seedless = λ called source n. names_good source n.reports n.jobs n.names;
+  unrestored = λ source unsound. absurd unsound;
+  sound = λ called source link written told t unsound. unsound;
+  seeded = λ called source link written told t n. start_or_nobody words.look called.random source told (starts_given words.look called.random source t.ran.jobs t.ran.table t.ran.proofs t.ran.starts) n;
+  few = λ called source link written told t last. not_foreign words.look (lasting_of words) words.proof called source link told (ran_tells words.look (lasting_of words) words.proof called source link t.ran) last;
+  uncalled = λ called link told same last. uncalled_not_foreign words.look (lasting_of words) words.proof called link told same last;
+  behind = λ called source link s c. behind words.look (lasting_of words) words.proof called source link words.table s c;
+  well = λ called source link n. (n.told, n.reads, names_good source n.start.reports n.start.jobs n.start.names);
+  needed = λ called source link s n c. needed words.look (lasting_of words) words.proof called source link s n c;
+  in_ends = λ called source link s c. in_ends words.look (lasting_of words) words.proof called source link s c;
+  seeks = λ none_ called source n. none_ refl;
+  counts = λ none_ called source link last. none_ refl;
+  restores = λ none_ source unsound. unsound;
+})
+
+-- no line of an input of no bytes is bad
+no_line_bad : AreGoodJobs []
+no_line_bad = ([], [], record { said = Nothing ∷ []; each = (tt, tt); reports_are = refl; jobs_are = refl; few = omega arith })
+
+pub node_lawful : (words : NodeWords) → Lawful (node_promise words)
+node_lawful words =
+    vouched_lawful (λ random. Vouches words.look words.proof random) (node_aim words.look (lasting_of words) words.proof words.table) (begun_lawful words) refl
+    (λ source number told same. unread_not_bad_of AreGoodJobs IsBadJob jobs_apart no_line_bad source number told same)
+    (λ called link told same last. uncalled_not_foreign words.look (lasting_of words) words.proof called link told same last) (λ source unsound. unsound)
 
 -- ---- behind the proof
 

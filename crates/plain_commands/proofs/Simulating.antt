@@ -35,6 +35,8 @@ use Rattle.command_base.specs.Started.{own_of, look_of, book_of, drawn_of, looku
 use Rattle.seal_tags.specs.Seals.{is_group_tag}
 use Rattle.plain_commands.specs.Simulated.{network_of, look_to, sim_look, IsSimulable, report_of, first_nodes, Begins, count_among, sought_in, sim_text, SimText, no_key, sim_called}
 use Rattle.command_base.proofs.Starting.{admits_usable, within_limits, usable_told}
+use Rattle.kad_words.specs.Table.{alpha_option, k_option, nodes_option, paths_option, Values, NumberOf}
+use Rattle.command_base.proofs.Ranges.{within}
 
 pub sim_range : (s : Simulation) → IsSimulable s → IsInRange (sim_look s)
 sim_range s h = record {
@@ -133,3 +135,19 @@ simulates s start key words left o net wide before (Some events) text begun seal
 pub sim_pieces : (found asked failed turned honest : ℕ)
     → codes "found " ++ (decimal found ++ (codes " asked " ++ (decimal asked ++ (codes " failed " ++ (decimal failed ++ (codes " turned " ++ (decimal turned ++ (codes " honest " ++ decimal honest)))))))) ≡ sim_text found asked failed turned honest
 sim_pieces found asked failed turned honest = sym (simp append_assoc refl)
+
+pub simulable : (value : Values) (s : Simulation) → NumberOf nodes_option value s.nodes → NumberOf k_option value s.k → NumberOf paths_option value s.paths → NumberOf alpha_option value s.alpha → IsSimulable s
+simulable value s nodes k paths alpha =
+    let some_nodes = within 1 20000 2000 (omega arith) (omega arith) _ s.nodes nodes in
+    let live = within 1 20 8 (omega arith) (omega arith) _ s.k k in
+    let path = within 1 8 4 (omega arith) (omega arith) _ s.paths paths in
+    let query = within 1 4 3 (omega arith) (omega arith) _ s.alpha alpha in
+    record {
+      few_nodes = some_nodes.below;
+      some_live = live.above;
+      few_live = live.below;
+      some_path = path.above;
+      few_paths = path.below;
+      some_query = query.above;
+      few_queries = query.below;
+    }

@@ -1,5 +1,5 @@
 -- A node that serves, from the input of the command to its end.
-use Rattle.std.proofs.Common.{◌≡◌, ℕ, List, [], ◌∷◌, ◌++◌, Option, inl, inr, sym, ap, subst, ◌∙◌}
+use Rattle.std.proofs.Common.{◌≡◌, ℕ, List, [], ◌∷◌, ◌++◌, Option, inl, inr, sym, ap, subst, ◌∙◌, arith}
 use Rattle.std.specs.Prelude.{map, codes, decimal, Result, Err}
 use Rattle.std.specs.List.{All}
 use Rattle.std.proofs.lemmas.List.{append_assoc}
@@ -25,9 +25,11 @@ use Rattle.kad_words.specs.declared.command.ServeWords.{ServeWords}
 use Rattle.command_base.specs.Input.{Lists, Admits, Keeps}
 use Rattle.serve_commands.specs.Printed.{served_text}
 use Rattle.command_base.specs.Shown.{Shown}
-use Rattle.serve_commands.specs.Served.{Hosts, begun_at, lasting_of, Served, ServedSome}
+use Rattle.serve_commands.specs.Served.{Hosts, begun_at, lasting_of, Served, ServedSome, AreServiceBounds}
 use Rattle.command_base.specs.Started.{own_of, seen_call}
 use Rattle.command_base.specs.Called.{Called}
+use Rattle.kad_words.specs.Table.{bits_option, k_option, workers_option, Values, NumberOf}
+use Rattle.command_base.proofs.Ranges.{within, table_in_range}
 
 -- ---- the command
 
@@ -87,3 +89,8 @@ kept_pass own family policy (r ∷ rs) kept h =
 
 pub served_pieces : (received replied : ℕ) → codes "received " ++ (decimal received ++ (codes " replied " ++ decimal replied)) ≡ served_text received replied
 served_pieces received replied = sym (append_assoc (codes "received " ++ decimal received) (codes " replied ") (decimal replied) ∙ append_assoc (codes "received ") (decimal received) (codes " replied " ++ decimal replied))
+
+pub service_in_range : (value : Values) (service : ServeWords) → NumberOf k_option value service.k → NumberOf bits_option value service.bits → NumberOf workers_option value service.workers → AreServiceBounds service
+service_in_range value service is_k is_bits is_workers =
+    let workers = within 1 8 1 (omega arith) (omega arith) _ service.workers is_workers in
+    record { table = table_in_range value service.k service.bits is_k is_bits; some_worker = workers.above; few_workers = workers.below }

@@ -5,6 +5,7 @@ use Rattle.contact_table.specs.SavedState.{state_of}
 use Rattle.contact_table.specs.TableState.{SoundTable, TableState}
 use Rattle.contact_table.specs.declared.saved.Saved.{Saved}
 use Rattle.kad_words.specs.declared.command.RefreshWords.{RefreshWords}
+use Rattle.table_file.specs.Reading.{IsBadLine as IsBadSavedLine}
 use Rattle.table_file.specs.SavedText.{IsSavedText}
 use Rattle.table_file.proofs.SavedOnce.{saved_once}
 use Rattle.command_base.specs.declared.status.Status.{Status}
@@ -16,9 +17,13 @@ use Rattle.command_base.specs.Promise.{IsOneOf}
 use Rattle.command_base.specs.Shown.{Shown}
 use Rattle.command_base.specs.Called.{Called}
 use Rattle.command_base.proofs.Exactly.{input_once}
-use Rattle.command_base.proofs.Staged.{Behind}
+use Rattle.command_base.proofs.Lawful.{Lawful}
+use Rattle.command_base.proofs.Staged.{Behind, reading_lawful}
 
 -- ---- its input
+
+saved_apart : (input : List ℕ) (number : ℕ) → IsSaved input → IsBadSavedLine input number → ⊥
+saved_apart input number saved bad = bad.unread saved.0 saved.1
 
 restored : (source : Shown ℕ) (table : TableState) → Restores source table → ReadsAs IsSaved source
 restored source table r = record { input = r.input; read = r.read; is_good = (r.saved, r.is_saved) }
@@ -71,3 +76,22 @@ module _ (words : RefreshWords) (called : Called) (source : Shown ℕ) (link : S
   no_table LinkFault h = absurd h
   no_table Strays h = absurd h
   no_table other h = h
+
+pub refreshing_lawful : (words : RefreshWords) → Lawful (refresh_promise words)
+refreshing_lawful words = reading_lawful (refresh_aim words) (record {
+  good = λ called source link written t. restored source t.refreshes.table t.refreshes.restores;
+  apart = saved_apart;
+  seedless = λ called source none_. absurd none_;
+  unrestored = λ source n. unrestored source n;
+  sound = λ called source link written told t n. sound_or_not source t.refreshes.table told t.refreshes.restores n;
+  seeded = λ called source link written told t none_. none_;
+  few = λ called source link written told t last. last;
+  uncalled = λ called link told same last. last;
+  behind = λ called source link s c. behind words called source link s c;
+  well = λ called source link n. (n.told, n.reads, restored source n.table n.restores);
+  needed = λ called source link s n c. needed words called source link s n c;
+  in_ends = λ called source link s c. in_ends words called source link s c;
+  seeks = λ none_ called source no_one. no_one;
+  counts = λ none_ called source link last. none_ refl;
+  restores = λ none_ source n. none_ refl;
+})
