@@ -1,6 +1,6 @@
 -- What a journal shows: filters and counts of its entries, for any number of paths (S/Kademlia, 2007, section 4.4) and
 -- of queries at once (Kademlia, 2002, section 2.3).
-use Rattle.std.specs.Prelude.{ℕ, List, [], ◌∷◌, ◌++◌, length, drop, map, Option, None, Bool, false, not, ◌==◌, nat_lt, filter, find, slice_get, if◌then◌else◌}
+use Rattle.std.specs.Prelude.{◌≡◌, ◌<◌, ℕ, List, [], ◌∷◌, ◌++◌, length, drop, map, Option, None, Bool, false, not, ◌==◌, nat_lt, filter, find, slice_get, if◌then◌else◌}
 use Rattle.std.specs.List.{flat_map}
 use Rattle.kad_base.specs.declared.types.Contact.{Contact}
 use Rattle.kad_base.specs.declared.types.Report.{Report}
@@ -148,6 +148,10 @@ unsettled p J = drop (length (settled p J)) (things p J)
 -- what comes next to be settled on path p
 unfoldable pub first_unsettled : ℕ → List Entry → Option Thing
 first_unsettled p J = slice_get (unsettled p J) 0
+
+-- nothing is unsettled on the first n paths
+abbrev pub AllSettled : ℕ → List Entry → Type 0
+AllSettled n J = (p : ℕ) → p < n → unsettled p J ≡ []
 
 -- the closest of the k closest alive contacts of path p that was never asked
 abbrev pub first_unasked : Setting → ℕ → List Entry → Option Contact

@@ -1,5 +1,5 @@
 -- Announcements that are made one after another.
-use Rattle.std.proofs.Common.{◌≡◌, ℕ, zero, suc, ◌+◌, ◌<◌, ◌≤◌, List, [], ◌∷◌, ◌++◌, length, take, drop, get_or, Bool, true, false, cond, refl, sym, ap, subst, ◌∙◌, arith, w32}
+use Rattle.std.proofs.Common.{◌≡◌, ℕ, zero, suc, ◌+◌, ◌<◌, ◌≤◌, List, [], ◌∷◌, ◌++◌, length, take, drop, get_or, Bool, true, false, refl, sym, ap, subst, ◌∙◌, arith, w32}
 use Rattle.std.specs.Prelude.{map, filter, Option, Some, Result, Ok, Err, IfOk, OnErr}
 use Rattle.std.specs.List.{flat_map}
 use Rattle.std.specs.Int.{to_le_bytes}
@@ -22,6 +22,7 @@ use Rattle.kad_krpc.specs.declared.message.Message.TheVariants as message
 use Rattle.kad_krpc.specs.Form.{form, IsGivenPort, IsWritableAsk}
 use Rattle.lookup_core.specs.Quest.{brought}
 use Rattle.lookup_core.specs.declared.gather.Token.{Token}
+use Rattle.lookup_core.proofs.Lists.{kept_one, left_one}
 use Rattle.follow_ups.specs.declared.announce.Said.{Said}
 use Rattle.follow_ups.specs.declared.announce.Said.TheVariants.{Item, Peer}
 use Rattle.follow_ups.specs.declared.announce.Announcement.{Announcement}
@@ -144,12 +145,6 @@ some_made read_only proof seed place asks tokens found i m a b g =
 abbrev of_contact : Contact → Token → Bool
 of_contact c t = same t.contact c
 
-kept_yes : {A : Type 0} (p : A → Bool) (x : A) (xs : List A) → p x ≡ true → filter p (x ∷ xs) ≡ x ∷ filter p xs
-kept_yes {A} p x xs e = ap (λ b. cond b (x ∷ filter p xs) (filter p xs)) e
-
-kept_no : {A : Type 0} (p : A → Bool) (x : A) (xs : List A) → p x ≡ false → filter p (x ∷ xs) ≡ filter p xs
-kept_no {A} p x xs e = ap (λ b. cond b (x ∷ filter p xs) (filter p xs)) e
-
 -- the first ones are not the contact's, and the next one is
 pub first_is : (tokens : List Token) (c : Contact) (i : ℕ) (x : Token) → i < length tokens → x ≡ get_or tokens i x → filter (of_contact c) (take i tokens) ≡ [] → same x.contact c ≡ true → first_from tokens c ≡ x ∷ []
 first_is tokens c i x lt here none_ yes_ =
@@ -157,14 +152,14 @@ first_is tokens c i x lt here none_ yes_ =
     let rest = drop (i + 1) tokens in
     let apart : tokens ≡ take i tokens ++ (x ∷ rest) = sym (take-append-drop i tokens) ∙ ap (λ (l : List Token). take i tokens ++ l) (drop_more tokens i x lt ∙ ap (λ (y : Token). y ∷ drop (i + 1) tokens) (sym here)) in
     let kept : filter p tokens ≡ x ∷ filter p rest =
-    ap (filter p) apart ∙ filter-append p (take i tokens) (x ∷ rest) ∙ ap (λ (l : List Token). l ++ filter p (x ∷ rest)) none_ ∙ kept_yes p x rest yes_ in
+    ap (filter p) apart ∙ filter-append p (take i tokens) (x ∷ rest) ∙ ap (λ (l : List Token). l ++ filter p (x ∷ rest)) none_ ∙ kept_one p x rest yes_ in
     ap (take 1) kept
 
 -- nor is the next one
 pub none_more : (tokens : List Token) (c : Contact) (i : ℕ) (x : Token) → i < length tokens → x ≡ get_or tokens i x → filter (of_contact c) (take i tokens) ≡ [] → same x.contact c ≡ false → filter (of_contact c) (take (i + 1) tokens) ≡ []
 none_more tokens c i x lt here none_ no_ =
     let p : Token → Bool = of_contact c in
-    ap (filter p) (take_more tokens i x lt ∙ ap (λ (y : Token). take i tokens ++ y ∷ []) (sym here)) ∙ filter-append p (take i tokens) (x ∷ []) ∙ ap (λ (l : List Token). l ++ filter p (x ∷ [])) none_ ∙ kept_no p x [] no_
+    ap (filter p) (take_more tokens i x lt ∙ ap (λ (y : Token). take i tokens ++ y ∷ []) (sym here)) ∙ filter-append p (take i tokens) (x ∷ []) ∙ ap (λ (l : List Token). l ++ filter p (x ∷ [])) none_ ∙ left_one p x [] no_
 
 -- none is
 pub none_first : (tokens : List Token) (c : Contact) (i : ℕ) → length tokens ≤ i → filter (of_contact c) (take i tokens) ≡ [] → first_from tokens c ≡ []

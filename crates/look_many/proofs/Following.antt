@@ -2,7 +2,7 @@
 use Rattle.std.proofs.Common.{◌≡◌, ℕ, zero, suc, ◌+◌, ◌-◌, ◌<◌, ◌≤◌, List, [], ◌∷◌, ◌++◌, length, Option, Some, None, Bool, true, false, cond, inl, inr, refl, sym, ap, subst, ◌∙◌, arith}
 use Rattle.std.specs.Prelude.{map, slice_get, reverse, drop}
 use Rattle.std.specs.List.{AllByRecursion, AllZip}
-use Rattle.std.proofs.lemmas.List.{append-nil, append_assoc, length-append, reverse-append, length-reverse}
+use Rattle.std.proofs.lemmas.List.{append-nil, append_assoc, length-append, length-reverse}
 use Rattle.std.proofs.lemmas.Option.{slice_get_within}
 use Rattle.kad_base.specs.declared.types.Event.{Event}
 use Rattle.kad_base.specs.declared.types.Event.TheVariants.{Sent, Unsent}
@@ -21,7 +21,6 @@ use Rattle.lookup_crowd.specs.declared.seeker.Progress.{Progress}
 use Rattle.lookup_crowd.specs.declared.seeker.ManyFault.{ManyFault}
 use Rattle.lookup_crowd.specs.declared.seeker.ManyFault.TheVariants.{NoMemory}
 use Rattle.lookup_crowd.specs.Many.{Frame, Shown, Reading, nothing_read, said_by, and_then, follow_bytes, SaysNext}
-use Rattle.lookup_crowd.specs.Errands.{drawn_by}
 use Rattle.lookup_crowd.specs.inner.Crowd.{whose, IsLegal, SameSeat, KeepsProgress, ManyShow, Stand, stand, Advances}
 use Rattle.lookup_crowd.specs.inner.ManySteps.{for_follow_ups, MayReceive, Received, RanOn, Stops, EndsEarly}
 use Rattle.lookup_crowd.proofs.Heard.{same_seats, seats_then}
@@ -29,9 +28,10 @@ use Rattle.lookup_crowd.proofs.Hosting.{ran_none, ran_then, ran_on_none}
 use Rattle.lookup_crowd.proofs.Walking.{nothing_after, then_assoc, shows_more}
 use Rattle.lookup_crowd.proofs.Telling.{none_shown, each_over, all_longer, stops_early, IsEarly}
 use Rattle.lookup_crowd.proofs.Rounding.{stays_none, stays_then}
-use Rattle.lookup_crowd.proofs.Gone.{hands_then, hands_same}
+use Rattle.lookup_crowd.proofs.Gone.{hands_then, hands_same, drawn_none, drawn_then}
 use Rattle.look_many.specs.inner.Following.{Follows, CarriesOf, IsNext, Says, EndsSaying}
 use Rattle.look_many.specs.inner.Serving.{MayServe}
+use Rattle.look_many.proofs.Lists.{turned}
 use Rattle.look_many.proofs.ServingOn.{over_next, stays_same}
 
 -- after a follow-up one less is left, and it began a round
@@ -87,18 +87,6 @@ module _ (f : Frame) (count place : ℕ) (read : Reading) (ks : List Seeker) (pr
       (record { within = omega (arith, lt); left = omega (arith, left); some = λ idle one. omega (arith, lt) })
 
 -- ---- going on
-
-drawn_none : (words : WordsState) → words ≡ drawn_by words []
-drawn_none words = ap (λ n. record { seed = words.seed; place = n }) (place words.place)
-  where
-    place : (n : ℕ) → n ≡ n + 0
-    place n = omega arith
-
-pub drawn_then : (a b c : WordsState) (m n : List ℕ) → b ≡ drawn_by a m → c ≡ drawn_by b n → c ≡ drawn_by a (m ++ n)
-drawn_then a b c m n g h = h ∙ ap (λ w. drawn_by w n) g ∙ ap (λ k. record { seed = a.seed; place = k }) (sum a.place)
-  where
-    sum : (p : ℕ) → p + length m + length n ≡ p + length (m ++ n)
-    sum p = let l = length-append m n in omega (arith, l)
 
 module _ (follows : List FollowUp) (accepts : Accepts) (tags : Tags) (server : ServeSetting) where
   follows_none : (s : Stand) → Follows follows [] [] accepts tags server s s
@@ -330,9 +318,6 @@ module _ (follows : List FollowUp) (accepts : Accepts) (tags : Tags) (server : S
   }
 
 -- ---- the list
-
-turned : {A : Type 0} (xs rest : List A) (x : A) → xs ≡ rest ++ x ∷ [] → reverse xs ≡ x ∷ reverse rest
-turned xs rest x e = ap reverse e ∙ reverse-append rest (x ∷ [])
 
 front_of : {A : Type 0} (n : ℕ) (xs rest : List A) (x : A) → drop n xs ≡ x ∷ rest → slice_get xs n ≡ Some x
 front_of n [] rest x e = absurd (no_front n e)

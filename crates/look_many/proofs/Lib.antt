@@ -1,3 +1,4 @@
+pub mod Lists
 pub mod Losing
 pub mod Closing
 pub mod ServingOn

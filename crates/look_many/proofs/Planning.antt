@@ -32,6 +32,7 @@ use Rattle.look_many.specs.Planned.{by, follow_ups, follows_read}
 use Rattle.look_many.specs.inner.Following.{IsSayable}
 use Rattle.look_many.specs.inner.Kept.{owed_of, follows_kept}
 use Rattle.look_many.specs.inner.Seats.{IsDone, IsHanded}
+use Rattle.look_many.proofs.Lists.{first_same, rest_same}
 
 -- ---- the plan
 
@@ -61,20 +62,14 @@ owes_none own (Put key v) found tokens e = absurd cc
 owed_same : (own : Id) (job : Job) (k l : Seeker) → whose l ≡ whose k → l.gathered ≡ k.gathered → owed_of own job l ≡ owed_of own job k
 owed_same own job k l same gathered = ap (λ (w : Whose). owed_for own job (result_of w.setting w.journal) l.gathered.tokens) same ∙ ap (λ (g : Gathered). owed_for own job (result_of k.lookup.book.setting k.lookup.book.journal) g.tokens) gathered
 
-first : {A : Type 0} {x y : A} {xs ys : List A} → x ∷ xs ≡ y ∷ ys → x ≡ y
-first e = cc
-
-rest : {A : Type 0} {x y : A} {xs ys : List A} → x ∷ xs ≡ y ∷ ys → xs ≡ ys
-rest e = cc
-
 pub follows_still : (own : Id) (i : ℕ) (jobs : List Job) (ks ls : List Seeker) → map whose ls ≡ map whose ks → map (λ (k : Seeker). k.gathered) ls ≡ map (λ (k : Seeker). k.gathered) ks → follows_kept own i jobs ls ≡ follows_kept own i jobs ks
 follows_still own i [] ks ls same gathered = refl
 follows_still own i (j ∷ jobs) [] [] same gathered = refl
 follows_still own i (j ∷ jobs) [] (l ∷ ls) same gathered = absurd cc
 follows_still own i (j ∷ jobs) (k ∷ ks) [] same gathered = absurd cc
 follows_still own i (j ∷ jobs) (k ∷ ks) (l ∷ ls) same gathered =
-    ap (λ x. map (by i) x ++ follows_kept own (suc i) jobs ls) (owed_same own j k l (first same) (first gathered))
-    ∙ ap (λ x. map (by i) (owed_of own j k) ++ x) (follows_still own (suc i) jobs ks ls (rest same) (rest gathered))
+    ap (λ x. map (by i) x ++ follows_kept own (suc i) jobs ls) (owed_same own j k l (first_same same) (first_same gathered))
+    ∙ ap (λ x. map (by i) (owed_of own j k) ++ x) (follows_still own (suc i) jobs ks ls (rest_same same) (rest_same gathered))
 
 -- ---- what the events tell
 

@@ -65,6 +65,7 @@ use Rattle.look_many.specs.ManyLooked.{setting_for, quest_for, seeds_for, reads_
 use Rattle.look_many.specs.inner.Seats.{count_of, IsSeekerFor, IsDone, IsHanded}
 use Rattle.look_many.specs.inner.Going.{WentWhole, EndsWhole}
 use Rattle.look_many.specs.inner.Ends.{Task, Starts, FoundBack, StoppedBack}
+use Rattle.look_many.proofs.Lists.{first_same, rest_same}
 use Rattle.look_many.proofs.Planning.{IsOfKind, kept_found}
 use Rattle.look_many.proofs.Starting.{begin_seeds, all_fresh_of}
 use Rattle.look_many.proofs.Whole.{begins, told_whole, tells_early, ends_at_foreign}
@@ -206,13 +207,7 @@ errand_items (losing c reply ∷ es) h = errand_items es h
 fresh_seats : (turn : TurnState TableState) (r : ℕ) (ks : List Seeker) (ps : List TablePass) → map (λ (k : Seeker). k.pass) ks ≡ ps → AllByRecursion (λ (p : TablePass). mine p ≡ []) ps → AllByRecursion (λ (k : Seeker). mine k.pass ≡ []) ks
 fresh_seats turn r [] ps is h = tt
 fresh_seats turn r (k ∷ ks) [] is h = absurd cc
-fresh_seats turn r (k ∷ ks) (p ∷ ps) is h = (ap mine (first is) ∙ h.0, fresh_seats turn r ks ps (rest is) h.1)
-  where
-    first : {A : Type 0} {x y : A} {xs ys : List A} → x ∷ xs ≡ y ∷ ys → x ≡ y
-    first e = cc
-
-    rest : {A : Type 0} {x y : A} {xs ys : List A} → x ∷ xs ≡ y ∷ ys → xs ≡ ys
-    rest e = cc
+fresh_seats turn r (k ∷ ks) (p ∷ ps) is h = (ap mine (first_same is) ∙ h.0, fresh_seats turn r ks ps (rest_same is) h.1)
 
 fresh_made : (turn : TurnState TableState) (r n : ℕ) → AllByRecursion (λ (p : TablePass). mine p ≡ []) (map (fresh turn.id) (range_with_len r n))
 fresh_made turn r zero = tt

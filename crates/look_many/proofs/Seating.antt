@@ -2,7 +2,7 @@
 use Rattle.std.proofs.Common.{◌≡◌, ℕ, zero, suc, ◌+◌, ◌<◌, ◌≤◌, List, [], ◌∷◌, ◌++◌, length, get_or, refl, sym, ap, subst, ◌∙◌, arith, Result}
 use Rattle.std.specs.Prelude.{map, drop, reverse}
 use Rattle.std.specs.List.{AllByRecursion, AllZip, range_with_len, All}
-use Rattle.std.proofs.lemmas.List.{append_assoc, reverse-append}
+use Rattle.std.proofs.lemmas.List.{append_assoc}
 use Rattle.std.proofs.lemmas.List.FromFn.{length-map-range_with_len}
 use Rattle.std.specs.List.Sorted.{IsStrictlySortedBy}
 use Rattle.look_many.specs.declared.job.Job.{Job}
@@ -33,6 +33,7 @@ use Rattle.lookup_core.specs.declared.state.Lookup.{Lookup}
 use Rattle.look_many.specs.Job.{target_of}
 use Rattle.look_many.specs.ManyLooked.{AreSent, how_often, setting_for, quest_for, seeds_for}
 use Rattle.look_many.specs.inner.Seats.{IsBookFor, IsSeekerFor, IsDone, IsHanded, IsOutcome, IsOverBook}
+use Rattle.look_many.proofs.Lists.{turned}
 
 -- ---- lists in step
 
@@ -123,9 +124,6 @@ module _ {B : Type 0} (f : ℕ → B) where
 pub seeker_for : (server : ServeSetting) (setting : ManySetting) (table : TableState) (job : Job) (book : BookState) (quest : Quest) (lookup : Lookup) (pass : PassState TableCall TableReply) (settled : Result (Unit {0}) NoMemory) (gathered : Gathered) → IsBookFor server setting table job book → quest ≡ quest_for server setting job → lookup.book ≡ book → lookup.queries ≡ [] → IsBare gathered
     → IsSeekerFor server setting table job (record { quest = quest; lookup = lookup; gathered = gathered; pass = pass; settled = settled })
 seeker_for server setting table job book quest lookup pass settled gathered h is same none bare = record { bare = bare; book = subst (IsBookFor server setting table job) (sym same) h; quest = is; none_open = none }
-
-turned : {A : Type 0} (xs rest : List A) (x : A) → xs ≡ rest ++ x ∷ [] → reverse xs ≡ x ∷ reverse rest
-turned xs rest x e = ap reverse e ∙ reverse-append rest (x ∷ [])
 
 -- the next book
 pub finishing_first : (all left rest : List Done) (b : Done) (ones : List One) → Finishing all left ones → left ≡ rest ++ b ∷ [] → IsOverBook b.book

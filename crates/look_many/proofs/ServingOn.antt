@@ -14,6 +14,7 @@ use Rattle.lookup_crowd.specs.inner.ManySteps.{IsRunOut, for_others, MayReceive,
 use Rattle.look_many.specs.inner.Serving.{MayServe, WantsMore}
 use Rattle.lookup_core.proofs.Received.{none_driven}
 use Rattle.lookup_crowd.proofs.Rounding.{Stays}
+use Rattle.look_many.proofs.Lists.{first_same, rest_same}
 
 pub may_serve : (ks : List Seeker) (progress : Progress) (until : ℕ) → MayServe ks progress → progress.unsaid ≡ 0 → WantsMore progress → until ≡ waits_to progress.end progress.moment → MayReceive ks progress until false
 may_serve ks progress until may unsaid more waits = record {
@@ -48,12 +49,6 @@ none_same (o ∷ olds) (n ∷ news) same h =
 pub stays_same : (olds news : List Seeker) → map whose news ≡ map whose olds → map (λ (k : Seeker). k.gathered) news ≡ map (λ (k : Seeker). k.gathered) olds → AllZip SameSeat olds news → Stays olds news
 stays_same olds news same gathered seats = record { longer = longer_same olds news same gathered; driven_on = driven_same olds news same; seats = seats }
   where
-    first : {A : Type 0} {x y : A} {xs ys : List A} → x ∷ xs ≡ y ∷ ys → x ≡ y
-    first e = cc
-
-    rest : {A : Type 0} {x y : A} {xs ys : List A} → x ∷ xs ≡ y ∷ ys → xs ≡ ys
-    rest e = cc
-
     nothing_more : (o n : Seeker) → whose n ≡ whose o → n.lookup.book.journal ≡ o.lookup.book.journal ++ []
     nothing_more o n head = ap (λ (w : Whose). w.journal) head ∙ sym (append-nil o.lookup.book.journal)
 
@@ -64,8 +59,8 @@ stays_same olds news same gathered seats = record { longer = longer_same olds ne
     longer_same (o ∷ olds) (n ∷ news) same gathered =
         let head : whose n ≡ whose o = cc in
         let tail : map whose news ≡ map whose olds = cc in
-        let kept : n.gathered ≡ o.gathered = first gathered in
-        let others : map (λ (k : Seeker). k.gathered) news ≡ map (λ (k : Seeker). k.gathered) olds = rest gathered in
+        let kept : n.gathered ≡ o.gathered = first_same gathered in
+        let others : map (λ (k : Seeker). k.gathered) news ≡ map (λ (k : Seeker). k.gathered) olds = rest_same gathered in
         (record { more = []; quest = ap (λ (w : Whose). w.quest) head; setting = ap (λ (w : Whose). w.setting) head; journal = nothing_more o n head; gathered = λ is. kept }, longer_same olds news tail others)
 
     driven_same : (olds news : List Seeker) → map whose news ≡ map whose olds → AllZip DrivenOn olds news

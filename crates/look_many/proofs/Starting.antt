@@ -23,6 +23,7 @@ use Rattle.lookup_crowd.proofs.Zips.{zip_length}
 use Rattle.look_many.specs.declared.found.ManySetting.{ManySetting}
 use Rattle.look_many.specs.ManyLooked.{IsWithinLimits, setting_for, seeds_for}
 use Rattle.look_many.specs.inner.Seats.{IsFresh, IsSeekerFor, RolesFrom}
+use Rattle.look_many.proofs.Lists.{first_same, rest_same}
 
 -- ---- one lookup
 
@@ -117,23 +118,11 @@ module _ (server : ServeSetting) (setting : ManySetting) (table : TableState) (l
 
 pub seated_at : (turn : TurnState TableState) (r : ℕ) (ks : List Seeker) → map (λ (k : Seeker). k.pass) ks ≡ map (fresh turn.id) (range_with_len r (length ks)) → AllByRecursion (IsSeated turn) ks
 seated_at turn r [] h = tt
-seated_at turn r (k ∷ ks) h = ((ap (λ p. p.turn) (first h)), seated_at turn (r + 1) ks (rest h))
-  where
-    first : {A : Type 0} {x y : A} {xs ys : List A} → x ∷ xs ≡ y ∷ ys → x ≡ y
-    first e = cc
-
-    rest : {A : Type 0} {x y : A} {xs ys : List A} → x ∷ xs ≡ y ∷ ys → xs ≡ ys
-    rest e = cc
+seated_at turn r (k ∷ ks) h = ((ap (λ p. p.turn) (first_same h)), seated_at turn (r + 1) ks (rest_same h))
 
 pub roles_at : (turn : TurnState TableState) (r : ℕ) (ks : List Seeker) → map (λ (k : Seeker). k.pass) ks ≡ map (fresh turn.id) (range_with_len r (length ks)) → RolesFrom r ks
 roles_at turn r [] h = tt
-roles_at turn r (k ∷ ks) h = (ap (λ p. p.role) (first h), subst (λ n. RolesFrom n ks) (up r) (roles_at turn (r + 1) ks (rest h)))
+roles_at turn r (k ∷ ks) h = (ap (λ p. p.role) (first_same h), subst (λ n. RolesFrom n ks) (up r) (roles_at turn (r + 1) ks (rest_same h)))
   where
     up : (n : ℕ) → n + 1 ≡ suc n
     up n = omega arith
-
-    first : {A : Type 0} {x y : A} {xs ys : List A} → x ∷ xs ≡ y ∷ ys → x ≡ y
-    first e = cc
-
-    rest : {A : Type 0} {x y : A} {xs ys : List A} → x ∷ xs ≡ y ∷ ys → xs ≡ ys
-    rest e = cc

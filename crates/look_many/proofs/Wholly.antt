@@ -28,14 +28,13 @@ use Rattle.lookup_crowd.proofs.Lists.{none_front, none_back}
 use Rattle.lookup_crowd.proofs.Hosting.{ran_then, ran_on_none}
 use Rattle.lookup_crowd.proofs.Zips.{zip_weaker, zip_then, zip_right}
 use Rattle.lookup_crowd.proofs.Living.{lives_then, goes_then}
-use Rattle.lookup_crowd.proofs.Gone.{each_driven, each_lives, hands_then}
+use Rattle.lookup_crowd.proofs.Gone.{each_driven, each_lives, hands_then, drawn_then}
 use Rattle.look_many.specs.declared.job.Job.{Job}
 use Rattle.look_many.specs.inner.Serving.{HasEnough, MayServe}
 use Rattle.look_many.specs.inner.Following.{Says, EndsSaying}
 use Rattle.look_many.specs.inner.Going.{WentWhole, EndsWhole, SinceBegun}
 use Rattle.look_many.specs.inner.Kept.{follows_kept}
 use Rattle.look_many.proofs.Planning.{follows_still}
-use Rattle.look_many.proofs.Following.{drawn_then as drawn_both}
 use Rattle.look_many.proofs.ServingOn.{stays_same}
 use Rattle.look_many.proofs.Whole.{goes_on_with}
 
@@ -118,7 +117,7 @@ module _ (accepts : Accepts) (tags : Tags) (server : ServeSetting) where
         shows = λ f count began is known x. k.goes f count g.more began (frame_on f s.words t.words g.seed is) known (since_owing follows h.made s t g o.begins.round_over f count began is known x);
         owners_are = owned;
         said_are = a.said_are ∙ sym k.told_are ∙ ap (λ l. l ++ k.more.told) (sym g.none_told);
-        drawn = drawn_both s.words t.words u.words g.more.owners k.more.owners (h.drawn ∙ ap (drawn_by s.words) (sym g.owners_are)) (a.drawn ∙ ap (drawn_by t.words) (sym k.owners_are));
+        drawn = drawn_then s.words t.words u.words g.more.owners k.more.owners (h.drawn ∙ ap (drawn_by s.words) (sym g.owners_are)) (a.drawn ∙ ap (drawn_by t.words) (sym k.owners_are));
         ran = ran_then s.host t.host u.host g.more.did g.more.lost k.more.did k.more.lost h.same g.ran k.ran;
         each = zip_then Goes Goes Goes goes_then s.seekers t.seekers u.seekers h.each (each_driven t.seekers u.seekers stays.longer stays.driven_on stays.seats);
         legal = legal;
@@ -178,7 +177,7 @@ module _ (accepts : Accepts) (tags : Tags) (server : ServeSetting) where
             e.stops f count (and_then g.more k.more) began (frame_on f s.words e.last.words (k.seed ∙ g.seed) is)
             (k.goes f count g.more began (frame_on f s.words t.words g.seed is) known (since_owing follows h.made s t g o.begins.round_over f count began is known x));
         strays = λ is_strays. absurd (other is_strays);
-        drawn = drawn_both s.words t.words words' g.more.owners k.more.owners (h.drawn ∙ ap (drawn_by s.words) (sym g.owners_are)) (e.drawn ∙ ap (drawn_by t.words) (sym k.owners_are));
+        drawn = drawn_then s.words t.words words' g.more.owners k.more.owners (h.drawn ∙ ap (drawn_by s.words) (sym g.owners_are)) (e.drawn ∙ ap (drawn_by t.words) (sym k.owners_are));
         same = hands_then s.host t.host e.last.host h.same e.same;
         ran = ran_then s.host t.host e.last.host g.more.did g.more.lost k.more.did k.more.lost h.same g.ran k.ran;
         ran_on = e.ran_on;

@@ -1,11 +1,10 @@
 -- Each datagram that came was foreign or closed a query: so the counts stay within what was asked.
-use Rattle.std.proofs.Common.{◌≡◌, ℕ, suc, ◌+◌, ◌<◌, ◌≤◌, ◌^◌, List, [], ◌∷◌, ◌++◌, length, Bool, true, false, cond, refl, sym, ap, subst, ◌∙◌, arith}
-use Rattle.std.specs.Prelude.{filter, nat_lt}
+use Rattle.std.proofs.Common.{◌≡◌, ℕ, suc, ◌+◌, ◌<◌, ◌≤◌, ◌^◌, List, [], ◌∷◌, ◌++◌, length, Bool, true, false, refl, sym, ap, subst, ◌∙◌, arith}
 use Rattle.std.specs.List.{AllZip}
 use Rattle.std.proofs.lemmas.List.{length-append}
 use Rattle.kad_base.specs.declared.types.Addr.{Addr}
-use Rattle.query_book.specs.declared.Query.{Query}
 use Rattle.lookup_core.specs.Sealed.{Accepts}
+use Rattle.lookup_core.proofs.Received.{fewer_still}
 use Rattle.lookup_crowd.specs.declared.seeker.Seeker.{Seeker}
 use Rattle.lookup_crowd.specs.declared.seeker.Progress.{Progress}
 use Rattle.lookup_crowd.specs.inner.Crowd.{OnlyHeard, asks_of, queries_of}
@@ -13,20 +12,12 @@ use Rattle.lookup_crowd.specs.inner.ManySteps.{IsMatchFor, TakesFirst, Expires, 
 
 -- ---- how many queries are open
 
-few_in : (at : ℕ) (qs : List Query) → length (filter (λ (q : Query). nat_lt at q.deadline) qs) ≤ length qs
-few_in at [] = omega arith
-few_in at (q ∷ qs) = pick (nat_lt at q.deadline) (few_in at qs)
-  where
-    pick : (b : Bool) → length (filter (λ (x : Query). nat_lt at x.deadline) qs) ≤ length qs → length (cond b (q ∷ filter (λ (x : Query). nat_lt at x.deadline) qs) (filter (λ (x : Query). nat_lt at x.deadline) qs)) ≤ suc (length qs)
-    pick true h = omega (arith, h)
-    pick false h = omega (arith, h)
-
 pub fewer_expired : (at : ℕ) (olds news : List Seeker) → AllZip (Expires at) olds news → length (queries_of news) ≤ length (queries_of olds)
 fewer_expired at [] [] e = omega arith
 fewer_expired at [] (n ∷ news) e = absurd e
 fewer_expired at (o ∷ olds) [] e = absurd e
 fewer_expired at (o ∷ olds) (n ∷ news) e =
-    let one : length n.lookup.queries ≤ length o.lookup.queries = subst (λ qs. length qs ≤ length o.lookup.queries) (sym e.0.loses.queries) (few_in at o.lookup.queries) in
+    let one : length n.lookup.queries ≤ length o.lookup.queries = subst (λ qs. length qs ≤ length o.lookup.queries) (sym e.0.loses.queries) (fewer_still at o.lookup.queries) in
     let rest = fewer_expired at olds news e.1 in
     let are = length-append n.lookup.queries (queries_of news) in
     let were = length-append o.lookup.queries (queries_of olds) in

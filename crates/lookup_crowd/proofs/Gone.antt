@@ -52,19 +52,23 @@ each_driven ks ls l d s = zip_both (λ k x. Longer k x × DrivenOn k x) SameSeat
 pub each_lives : (ks ls : List Seeker) → AllZip Longer ks ls → AllZip DrivenOn ks ls → AllZip SameSeat ks ls → AllZip Lives ks ls
 each_lives ks ls l d s = zip_both (λ k x. Longer k x × DrivenOn k x) SameSeat Lives (λ k x p e. lives_driven k x p.0 p.1 e) ks ls (zip_both Longer DrivenOn (λ k x. Longer k x × DrivenOn k x) (λ k x a b. (a, b)) ks ls l d) s
 
+-- ---- words
+
+pub drawn_none : (w : WordsState) → w ≡ drawn_by w []
+drawn_none w = ap (λ n. record { seed = w.seed; place = n }) (place w.place)
+  where
+    place : (n : ℕ) → n ≡ n + 0
+    place n = omega arith
+
+pub drawn_then : (a b c : WordsState) (m n : List ℕ) → b ≡ drawn_by a m → c ≡ drawn_by b n → c ≡ drawn_by a (m ++ n)
+drawn_then a b c m n g h = h ∙ ap (λ w. drawn_by w n) g ∙ ap (λ k. record { seed = a.seed; place = k }) (sum a.place)
+  where
+    sum : (p : ℕ) → p + length m + length n ≡ p + length (m ++ n)
+    sum p = let l = length-append m n in omega (arith, l)
+
+-- ---- from a state to one that it has gone to
+
 module _ (accepts : Accepts) (tags : Tags) (server : ServeSetting) where
-  drawn_none : (w : WordsState) → w ≡ drawn_by w []
-  drawn_none w = ap (λ n. record { seed = w.seed; place = n }) (place w.place)
-    where
-      place : (n : ℕ) → n ≡ n + 0
-      place n = omega arith
-
-  drawn_then : (a b c : WordsState) (m n : List ℕ) → b ≡ drawn_by a m → c ≡ drawn_by b n → c ≡ drawn_by a (m ++ n)
-  drawn_then a b c m n g h = h ∙ ap (λ w. drawn_by w n) g ∙ ap (λ k. record { seed = a.seed; place = k }) (sum a.place)
-    where
-      sum : (p : ℕ) → p + length m + length n ≡ p + length (m ++ n)
-      sum p = let l = length-append m n in omega (arith, l)
-
   pub gone_none : (s : Stand) (owners : List ℕ) → HaveGone accepts tags server s s owners owners
   gone_none s owners = record { made = []; advances = advances_none true accepts tags server s; owners_are = sym (append-nil owners); drawn = drawn_none s.words; same = hands_same s.host; each = zip_same Goes goes_same s.seekers }
 

@@ -1,5 +1,5 @@
 -- The receives of a round of all lookups, one after another.
-use Rattle.std.proofs.Common.{◌≡◌, ◌≢◌, ◌⊎◌, ℕ, zero, suc, ◌+◌, ◌-◌, ◌<◌, ◌≤◌, List, [], ◌∷◌, ◌++◌, Option, None, Bool, true, false, inl, inr, refl, sym, ap, subst, ◌∙◌, arith}
+use Rattle.std.proofs.Common.{◌≡◌, ◌≢◌, ◌⊎◌, ℕ, zero, suc, ◌+◌, ◌<◌, ◌≤◌, List, [], ◌∷◌, ◌++◌, Option, None, Bool, true, false, inl, inr, refl, sym, ap, subst, ◌∙◌, arith}
 use Rattle.std.specs.Prelude.{map}
 use Rattle.std.specs.List.{AllByRecursion, AllZip}
 use Rattle.std.proofs.lemmas.List.{append_assoc}
@@ -8,6 +8,7 @@ use Rattle.kad_base.specs.Limits.{max_round_receives}
 use Rattle.kad_base.specs.Outside.{Grows}
 use Rattle.query_book.specs.declared.Query.{Query}
 use Rattle.lookup_core.specs.Sealed.{Accepts}
+use Rattle.lookup_core.proofs.Waiting.{still_to}
 use Rattle.node_serve.specs.declared.setting.ServeSetting.{ServeSetting}
 use Rattle.node_serve.specs.Sealing.{Tags}
 use Rattle.serve_crew.specs.Hands.{Hands, SameHands}
@@ -121,10 +122,6 @@ ends_last_after accepts tags server s t host' told' same stays a e =
     record { last = e.last; advances = advances_then true [] [] accepts tags server s t e.last same a e.advances; same = same_more s.host t.host e.last.host same e.same; legal = e.legal; longer = k.longer; driven_on = k.driven_on; seats = k.seats; ends = e.ends; ran_on = e.ran_on }
 
 -- ---- how many receives a round may still have
-
-abbrev pub still_to : ℕ → ℕ
-still_to zero = 0
-still_to (suc n) = max_round_receives - suc n
 
 pub fewer_left : (n m : ℕ) → n ≢ 0 → n < max_round_receives → (m ≡ 0) ⊎ (m ≡ n + 1) → still_to m < still_to n
 fewer_left zero m some few next = absurd (some refl)

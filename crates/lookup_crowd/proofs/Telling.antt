@@ -2,7 +2,6 @@
 use Rattle.std.proofs.Common.{◌≡◌, ◌≢◌, ◌⊎◌, ℕ, zero, suc, ◌+◌, ◌-◌, ◌<◌, ◌≤◌, ◌^◌, List, [], ◌∷◌, ◌++◌, length, Option, Some, None, Bool, true, false, cond, inl, inr, refl, sym, ap, subst, ◌∙◌, arith, Result, Err}
 use Rattle.std.specs.Prelude.{map, filter, nat_lt, IsErrOf}
 use Rattle.std.specs.List.{AllByRecursion, AllZip, flat_map}
-use Rattle.std.proofs.lemmas.Bool.Decides.{nat_tests}
 use Rattle.std.proofs.lemmas.List.{append-nil, append_assoc, length-map, nil_from_length}
 use Rattle.kad_base.specs.declared.types.Addr.{Addr}
 use Rattle.kad_base.specs.declared.types.Contact.{Contact}
@@ -22,6 +21,7 @@ use Rattle.lookup_core.specs.Timeouts.{closed_at}
 use Rattle.lookup_core.specs.LookupSteps.{as_open}
 use Rattle.lookup_core.proofs.Gathering.{kept_find}
 use Rattle.lookup_core.proofs.Lists.{map_append}
+use Rattle.lookup_core.proofs.Waiting.{below_last}
 use Rattle.node_serve.specs.declared.setting.ServeSetting.{ServeSetting}
 use Rattle.node_serve.specs.Calls.{Did}
 use Rattle.node_serve.specs.Lasting.{is_over, waits_to}
@@ -368,12 +368,9 @@ goes_more : (n k : ℕ) → goes_on n k ≢ 0 → GoesMore n k
 goes_more n zero h = absurd (h refl)
 goes_more n (suc k) h =
     elim (nat_lt (n + 1) max_round_receives) as (λ b. nat_lt (n + 1) max_round_receives ≡ b → cond b (n + 1) 0 ≢ 0 → GoesMore n (suc k)) [
-      | true ↦ λ e x. record { some = λ z. absurd (omega (arith, z)); next = ap (λ b. cond b (n + 1) 0) e; few = below n e }
+      | true ↦ λ e x. record { some = λ z. absurd (omega (arith, z)); next = ap (λ b. cond b (n + 1) 0) e; few = below_last n e }
       | false ↦ λ e x. absurd (x refl)
     ] refl h
-  where
-    below : (n : ℕ) → nat_lt (n + 1) max_round_receives ≡ true → n + 1 < max_round_receives
-    below n e = grind (arith, nat_tests)
 
 next_in : (n k : ℕ) → (goes_on n k ≡ 0) ⊎ (goes_on n k ≡ n + 1)
 next_in n zero = inl refl

@@ -1,18 +1,14 @@
 -- How many of the first lookups have something to settle: none, one, or more.
-use Rattle.std.proofs.Common.{◌≡◌, ◌≢◌, ◌<◌, ◌≤◌, ◌+◌, ℕ, List, [], length, get_or, set, Bool, true, false, inl, inr, ap, subst, ◌∙◌, arith}
+use Rattle.std.proofs.Common.{◌≡◌, ◌≢◌, ◌<◌, ◌≤◌, ◌+◌, ℕ, List, length, get_or, set, Bool, true, false, inl, inr, ap, subst, ◌∙◌, arith}
 use Rattle.std.proofs.lemmas.Bool.{cases_lt}
 use Rattle.std.proofs.lemmas.List.{get_or_default, set-get_or}
 use Rattle.kad_base.specs.Limits.{max_paths}
 use Rattle.claim_book.specs.declared.types.Entry.{Entry}
-use Rattle.claim_book.specs.Journal.{unsettled}
+use Rattle.claim_book.specs.Journal.{AllSettled}
 use Rattle.lookup_crowd.specs.declared.seeker.Seeker.{Seeker}
 use Rattle.lookup_crowd.specs.inner.SettleSteps.{HasSome, SeveralHaveSome}
 
--- none of the first paths has something
-abbrev pub NoneHas : ℕ → List Entry → Type 0
-NoneHas n J = (p : ℕ) → p < n → unsettled p J ≡ []
-
-pub none_here : (n : ℕ) (J : List Entry) → max_paths ≤ n → NoneHas n J → ¬ HasSome J
+pub none_here : (n : ℕ) (J : List Entry) → max_paths ≤ n → AllSettled n J → ¬ HasSome J
 none_here n J le none h = h.left (none h.path (let w = h.within in omega (arith, w, le)))
 
 -- ---- lookups

@@ -9,12 +9,12 @@ use Rattle.kad_base.specs.Words.{word}
 use Rattle.claim_book.specs.declared.types.Cause.TheVariants.{SendFault}
 use Rattle.claim_book.specs.declared.types.Entry.{Entry}
 use Rattle.claim_book.specs.declared.types.Entry.TheVariants.{Ask, Lost}
-use Rattle.lookup_core.proofs.Received.{driven_append}
+use Rattle.lookup_core.proofs.Received.{driven_append, driven_closed}
 use Rattle.lookup_core.specs.declared.quest.Quest.{Quest}
 use Rattle.lookup_core.specs.Matching.{OpenQuery, query_of, ReplyGives}
 use Rattle.lookup_core.specs.Reply.{Reply}
 use Rattle.lookup_core.specs.Reply as reply
-use Rattle.lookup_core.specs.Timeouts.{is_overdue, timed_out, closed_at}
+use Rattle.lookup_core.specs.Timeouts.{is_overdue, closed_at}
 use Rattle.lookup_run.specs.Tells.{Given, Seen, is_driven, driven, Gives, TellsFrom}
 use Rattle.lookup_run.specs.Rounds.{Scheduling, path_number, SettlesFrom, SettlesIn, RoundsFrom}
 use Rattle.lookup_run.proofs.OnceEvents.{Apart, apart_gives, got_once, free_once, sent_after, unsent_after}
@@ -31,11 +31,6 @@ driven_entry : (quest : Quest) (q : OpenQuery) (r : Reply) (e : Entry) → Reply
 driven_entry quest q (reply.Answer answer) e h = elim h [ inl x ↦ ap is_driven x.1 | inr x ↦ ap is_driven x.1 ]
 driven_entry quest q (reply.Error code) e h = ap is_driven h
 
-driven_timeouts : (qs : List OpenQuery) → driven (map timed_out qs) ≡ map timed_out qs
-unfolding driven
-driven_timeouts [] = refl
-driven_timeouts (q ∷ qs) = ap (λ l. timed_out q ∷ l) (driven_timeouts qs)
-
 driven_first : (e : Entry) (es : List Entry) → is_driven e ≡ true → driven es ≡ es → driven (e ∷ es) ≡ e ∷ es
 unfolding driven
 driven_first e es is rest = ap (λ b. cond b (e ∷ filter is_driven es) (filter is_driven es)) is ∙ ap (λ l. e ∷ l) rest
@@ -50,11 +45,11 @@ adds g J s t (Got from bytes until at) h =
       | inl m ↦ record {
         more = m.entry ∷ closed_at at m.left;
         given = ap (λ (x : Seen). x.given) m.after;
-        all_driven = driven_first m.entry (closed_at at m.left) (driven_entry g.quest m.matched.query m.matched.what m.entry m.matched.entry) (driven_timeouts (filter (is_overdue at) m.left));
+        all_driven = driven_first m.entry (closed_at at m.left) (driven_entry g.quest m.matched.query m.matched.what m.entry m.matched.entry) (driven_closed (filter (is_overdue at) m.left));
       }
-      | inr m ↦ record { more = closed_at at s.queries; given = ap (λ (x : Seen). x.given) m.1; all_driven = driven_timeouts (filter (is_overdue at) s.queries) }
+      | inr m ↦ record { more = closed_at at s.queries; given = ap (λ (x : Seen). x.given) m.1; all_driven = driven_closed (filter (is_overdue at) s.queries) }
     ]
-adds g J s t (Quiet until at) h = record { more = closed_at at s.queries; given = ap (λ (x : Seen). x.given) h.1; all_driven = driven_timeouts (filter (is_overdue at) s.queries) }
+adds g J s t (Quiet until at) h = record { more = closed_at at s.queries; given = ap (λ (x : Seen). x.given) h.1; all_driven = driven_closed (filter (is_overdue at) s.queries) }
 
 grown : (g : Given) (J : List Entry) (s t : Seen) (es : List Event) → TellsFrom g J s es t → (more : List Entry) × (t.given ≡ s.given ++ more)
 grown g J s t [] h = ([], ap (λ (x : Seen). x.given) h ∙ sym (append-nil s.given))

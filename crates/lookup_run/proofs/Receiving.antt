@@ -2,7 +2,6 @@
 use Rattle.std.proofs.Common.{◌≡◌, ◌≢◌, ◌⊎◌, ℕ, zero, suc, ◌+◌, ◌-◌, ◌*◌, ◌^◌, ◌<◌, ◌≤◌, List, [], ◌∷◌, ◌++◌, length, Option, true, false, cond, inl, inr, refl, sym, ap, subst, ◌∙◌, arith}
 use Rattle.std.specs.Prelude.{map, filter, nat_lt}
 use Rattle.std.specs.List.{AllByRecursion, flat_map}
-use Rattle.std.proofs.lemmas.Bool.Decides.{nat_tests}
 use Rattle.std.proofs.lemmas.List.{append-nil, append_assoc, length-append}
 use Rattle.std.proofs.lemmas.List.Concat.{flat_map-append}
 use Rattle.kad_base.specs.declared.types.Addr.{Addr}
@@ -29,7 +28,6 @@ use Rattle.lookup_core.specs.Matching.{OpenQuery, ReplyGives, IsStray}
 use Rattle.lookup_core.specs.Timeouts.{deadline_of, is_overdue, timed_out, closed_at, open_at}
 use Rattle.lookup_run.specs.Tells.{Given, Seen, driven, IsEarliest, WaitsUntil, goes_on, Waits, HaveAsked, Receives, Gives, received, receives_seen, after_match}
 use Rattle.lookup_run.specs.Rounds.{WaitsInTurn, InTurn}
-use Rattle.lookup_core.specs.Reply.{Answered}
 use Rattle.lookup_run.specs.Gathered.{Hears}
 use Rattle.lookup_run.specs.Lookup.{setting_of, given_of, told_of, TableTold, quest_of}
 use Rattle.lookup_core.specs.SendFaults.{unsent}
@@ -44,6 +42,7 @@ use Rattle.lookup_core.proofs.Refusing.{unsent_left}
 use Rattle.lookup_run.proofs.Walking.{OneEvent, NextStep, along_next}
 use Rattle.lookup_core.proofs.Opens.{opens_kept, each_asked}
 use Rattle.lookup_core.proofs.Lists.{map_append}
+use Rattle.lookup_core.proofs.Waiting.{below_last}
 use Rattle.lookup_core.specs.declared.quest.Quest.{Quest}
 use Rattle.lookup_core.specs.declared.state.Lookup.{Lookup}
 use Rattle.lookup_core.proofs.Holding.{all_dropped}
@@ -219,12 +218,9 @@ round_goes : (n : ℕ) (from to : Progress) (qs : List Query) → from.receives 
 round_goes n from to [] same is = inl is
 round_goes n from to (q ∷ qs) same is =
     elim (nat_lt (n + 1) max_round_receives) as (λ b. nat_lt (n + 1) max_round_receives ≡ b → to.receives ≡ cond b (n + 1) 0 → RoundGoes from to (q ∷ qs)) [
-      | true ↦ λ e k. inr (k ∙ ap (λ m. m + 1) (sym same), (let lt = below n e in omega (arith, lt, k)), λ none. absurd cc)
+      | true ↦ λ e k. inr (k ∙ ap (λ m. m + 1) (sym same), (let lt = below_last n e in omega (arith, lt, k)), λ none. absurd cc)
       | false ↦ λ e k. inl k
     ] refl is
-  where
-    below : (n : ℕ) → nat_lt (n + 1) max_round_receives ≡ true → n + 1 < max_round_receives
-    below n e = grind (arith, nat_tests)
 
 later_deadlines : (m at timeout : ℕ) (qs : List Query) → m ≤ at → AllByRecursion (λ (q : Query). q.deadline ≤ deadline_of m timeout) qs → AllByRecursion (λ (q : Query). q.deadline ≤ deadline_of at timeout) qs
 later_deadlines m at timeout [] le h = tt

@@ -1,7 +1,7 @@
 -- All paths settled at once, each on a thread of its own: the events show the longer journal, and each worker told the table
 -- of whom its path notes, in order.
 use Rattle.std.proofs.Common.{◌≡◌, ◌≢◌, ◌⊎◌, ℕ, ◌+◌, ◌-◌, ◌==◌, ◌<◌, ◌≤◌, List, [], ◌∷◌, ◌++◌, Option, Bool, true, false, cond, inl, inr, refl, sym, ap, subst, ◌∙◌, arith}
-use Rattle.std.specs.Prelude.{map, filter}
+use Rattle.std.specs.Prelude.{map}
 use Rattle.std.specs.List.{All, AllByRecursion, flat_map}
 use Rattle.std.proofs.lemmas.Bool.{cases_lt, false≢true}
 use Rattle.std.proofs.lemmas.Bool.Decides.{eqb_tells}
@@ -26,6 +26,7 @@ use Rattle.lookup_run.specs.Rounds.{concurrent, path_number}
 use Rattle.lookup_run.specs.Lookup.{Told, told_in, told_of, told_by, TableRan}
 use Rattle.lookup_run.specs.inner.DriverInvariant.{Keeps}
 use Rattle.lookup_run.specs.inner.RoundSteps.{SettlesPaths}
+use Rattle.lookup_core.proofs.Lists.{kept_one, left_one}
 use Rattle.lookup_core.proofs.Settling.{elsewhere}
 use Rattle.lookup_run.proofs.Quiet.{IsMute, quiet_entry, settles_mixed}
 use Rattle.lookup_run.proofs.Settled.{settles_more}
@@ -40,12 +41,6 @@ is_same a b is = elim (same_or_not a b) [ inl h ↦ h.0 | inr h ↦ absurd (h.1 
 
 is_other : (a b : ℕ) → a ≢ b → (a == b) ≡ false
 is_other a b ne = elim (same_or_not a b) [ inl h ↦ absurd (ne h.1) | inr h ↦ h.0 ]
-
-kept_one : {A : Type 0} (p : A → Bool) (x : A) (xs : List A) → p x ≡ true → filter p (x ∷ xs) ≡ x ∷ filter p xs
-kept_one p x xs is = ap (λ b. cond b (x ∷ filter p xs) (filter p xs)) is
-
-left_one : {A : Type 0} (p : A → Bool) (x : A) (xs : List A) → p x ≡ false → filter p (x ∷ xs) ≡ filter p xs
-left_one p x xs is = ap (λ b. cond b (x ∷ filter p xs) (filter p xs)) is
 
 -- ---- the calls of a role
 

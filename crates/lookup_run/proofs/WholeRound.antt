@@ -1,7 +1,6 @@
 -- The receives of a round, one after another.
-use Rattle.std.proofs.Common.{◌≡◌, ◌≢◌, ℕ, zero, suc, ◌-◌, ◌<◌, ◌≤◌, [], List, length, Option, refl, ◌∙◌, arith}
+use Rattle.std.proofs.Common.{◌≡◌, ◌≢◌, ℕ, ◌<◌, ◌≤◌, [], List, length, Option, refl, ◌∙◌, arith}
 use Rattle.kad_base.specs.declared.types.Event.{Event}
-use Rattle.kad_base.specs.Limits.{max_round_receives}
 use Rattle.id_puzzles.specs.Drawn.{WordsState}
 use Rattle.claim_book.specs.Journal.{asked}
 use Rattle.lookup_run.specs.declared.types.LookSetting.{LookSetting}
@@ -44,8 +43,3 @@ stray_after look accepts old w told mid told' h ends words scheduling start tabl
 
 pub few_after : (look : LookSetting) (accepts : Accepts) (old w : LookupState) (told mid told' : Option (List Event)) → Rounding look accepts old w told mid → ((words : WordsState) → FewStrays look accepts words w mid told') → (words : WordsState) → FewStrays look accepts words old told told'
 few_after look accepts old w told mid told' h few words scheduling start table began b a along = few words scheduling start table began 0 0 (h.goes words b a scheduling start table began along)
-
--- how many receives a round may still have
-abbrev pub still_to : ℕ → ℕ
-still_to zero = 0
-still_to (suc n) = max_round_receives - suc n

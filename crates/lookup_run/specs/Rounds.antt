@@ -9,6 +9,7 @@ use Rattle.claim_book.specs.declared.types.Setting.{Setting}
 use Rattle.claim_book.specs.declared.types.Entry.{Entry}
 use Rattle.claim_book.specs.declared.types.Entry.TheVariants.{Seed, Ask, Heard, Lost, Note, Taken, Held, Turned, Rejected, Skipped}
 use Rattle.claim_book.specs.Journal.{seeds, settles_on, unsettled, may_ask}
+pub use Rattle.claim_book.specs.Journal.{AllSettled}
 use Rattle.lookup_run.specs.Tells.{Given, Seen, Gives, begun}
 
 -- the path of an entry
@@ -47,10 +48,6 @@ MayFollow concurrent p q = Unit {0}
 abbrev pub SettlesFrom : Scheduling → ℕ → List Entry → Type 0
 SettlesFrom scheduling p [] = Unit {0}
 SettlesFrom scheduling p (e ∷ es) = MayFollow scheduling p (path_number e) × (is_settling e ≡ true) × SettlesFrom scheduling (path_number e) es
-
--- nothing is unsettled on the first n paths
-abbrev pub AllSettled : ℕ → List Entry → Type 0
-AllSettled n J = (p : ℕ) → p < n → unsettled p J ≡ []
 
 -- two of the first n paths have something to settle
 pub record HasSeveral (n : ℕ) (J : List Entry) : Type 0 where

@@ -3,7 +3,7 @@ use Rattle.id_puzzles.specs.Drawn.{WordsState}
 use Rattle.serve_crew.specs.Hands.{SameHands}
 use Rattle.lookup_crowd.specs.inner.Crowd.{Advances, stand}
 use Rattle.lookup_crowd.specs.inner.ManySteps.{MayAwait, ReceivedAll}
-use Rattle.lookup_crowd.proofs.Rounding.{still_to}
+use Rattle.lookup_core.proofs.Waiting.{still_to}
 use Rattle.lookup_crowd.proofs.round.receive_round.Given as goal
 
 abbrev pub invariant-receiving : goal.invariant-receiving

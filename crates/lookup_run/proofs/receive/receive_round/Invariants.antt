@@ -1,6 +1,7 @@
 use Rattle.std.proofs.Common.{◌≡◌, ◌≤◌, ◌+◌, length}
 use Rattle.kad_base.specs.Limits.{max_datagram}
-use Rattle.lookup_run.proofs.WholeRound.{Rounding, still_to}
+use Rattle.lookup_core.proofs.Waiting.{still_to}
+use Rattle.lookup_run.proofs.WholeRound.{Rounding}
 use Rattle.lookup_run.proofs.receive.receive_round.Given as goal
 
 abbrev pub invariant-receiving : goal.invariant-receiving
