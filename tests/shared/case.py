@@ -1,0 +1,106 @@
+"""What a test of the program is a class of, and second tries.
+
+A test whose failure may be the machine's says why by `@second_try(REASON)`: it is then tried once more, and tests/run counts it
+and says it. Every other test has one try."""
+
+import tempfile
+import unittest
+
+from shared import program
+from shared.peers import Crowd, Peer
+
+SECOND_TRIES = []  # of tests that passed so: the test, the reason, and what failed at first
+
+
+def second_try(reason):
+    """A test, or all of a class, that is tried once more for a reason that the machine has."""
+
+    def marked(test):
+        test.second_try = reason
+        return test
+
+    return marked
+
+
+class Told(unittest.TestResult):
+    """What a result is told of one test, so that another can be told of it."""
+
+    def __init__(self):
+        super().__init__()
+        self.calls, self.failed = [], []
+
+    def tell(self, result):
+        for name, arguments in self.calls:
+            getattr(result, name)(*arguments)
+
+
+def _remembers(name):
+    def call(self, *arguments):
+        self.calls.append((name, arguments))
+        what = arguments[-1]  # of an addition: what was raised, or None of a part that passed
+        if name in ("addError", "addFailure") or name == "addSubTest" and what is not None:
+            self.failed.append(what)
+
+    return call
+
+
+for _name in ("startTest", "stopTest", "addSuccess", "addError", "addFailure", "addSkip", "addSubTest"):
+    setattr(Told, _name, _remembers(_name))
+
+
+class ProgramTest(unittest.TestCase):
+    """A test of the program at `self.program`. What it opens is closed at its end, whatever happens."""
+
+    maxDiff = 4000
+
+    @property
+    def program(self):
+        return program.path()
+
+    def run(self, result=None):
+        reason = getattr(getattr(self, self._testMethodName), "second_try", getattr(type(self), "second_try", None))
+        if reason is None or result is None:
+            return super().run(result)
+        first = Told()
+        super().run(first)
+        if first.failed:
+            second = Told()
+            super().run(second)
+            if not second.failed:
+                SECOND_TRIES.append((self, reason, first.failed[0][1]))
+            first = second
+        first.tell(result)
+        return result
+
+    def closed_at_the_end(self, thing):
+        self.addCleanup(thing.close)
+        return thing
+
+    def peer(self, *words, **options):
+        return self.closed_at_the_end(Peer(*words, **options))
+
+    def crowd(self, play):
+        return self.closed_at_the_end(Crowd(play))
+
+    def server(self, *words, **options):
+        return self.closed_at_the_end(program.Server(*words, **options))
+
+    def start(self, words, **options):
+        """A child at work, whose input is to come."""
+        child = program.start(words, **options)
+        self.addCleanup(program.end, child)
+        return child
+
+    def folder(self):
+        return self.enterContext(tempfile.TemporaryDirectory())
+
+    def assertEnds(self, ended, status, out):
+        """A run's status and its whole output, as text or bytes."""
+        wanted = out if isinstance(out, bytes) else out.encode()
+        if ended.status != status or ended.out != wanted:
+            self.fail("wanted status %d, %r: %s" % (status, out, ended))
+
+    def assertSays(self, said, *parts):
+        """Standard error has each of these parts."""
+        lacks = [part for part in parts if part not in said.stderr]
+        self.assertFalse(lacks, "it lacks %r: %s" % (lacks, said))
