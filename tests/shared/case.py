@@ -3,6 +3,7 @@
 A test whose failure may be the machine's says why by `@second_try(REASON)`: it is then tried once more, and tests/run counts it
 and says it. Every other test has one try."""
 
+import socket
 import tempfile
 import unittest
 
@@ -84,6 +85,12 @@ class ProgramTest(unittest.TestCase):
 
     def server(self, *words, **options):
         return self.closed_at_the_end(program.Server(*words, **options))
+
+    def socket(self, host="127.0.0.1", port=0):
+        """A UDP socket of this address."""
+        made = self.closed_at_the_end(socket.socket(socket.AF_INET, socket.SOCK_DGRAM))
+        made.bind((host, port))
+        return made
 
     def start(self, words, **options):
         """A child at work, whose input is to come."""
