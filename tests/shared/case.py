@@ -34,19 +34,33 @@ class Told(unittest.TestResult):
         for name, arguments in self.calls:
             getattr(result, name)(*arguments)
 
-
-def _remembers(name):
-    def call(self, *arguments):
+    def keep(self, name, *arguments):
         self.calls.append((name, arguments))
-        what = arguments[-1]  # of an addition: what was raised, or None of a part that passed
-        if name in ("addError", "addFailure") or name == "addSubTest" and what is not None:
-            self.failed.append(what)
 
-    return call
+    def keep_failure(self, name, *arguments):
+        self.keep(name, *arguments)
+        self.failed.append(arguments[-1])
 
+    def startTest(self, test):
+        self.keep("startTest", test)
 
-for _name in ("startTest", "stopTest", "addSuccess", "addError", "addFailure", "addSkip", "addSubTest"):
-    setattr(Told, _name, _remembers(_name))
+    def stopTest(self, test):
+        self.keep("stopTest", test)
+
+    def addSuccess(self, test):
+        self.keep("addSuccess", test)
+
+    def addSkip(self, test, why):
+        self.keep("addSkip", test, why)
+
+    def addFailure(self, test, error):
+        self.keep_failure("addFailure", test, error)
+
+    def addError(self, test, error):
+        self.keep_failure("addError", test, error)
+
+    def addSubTest(self, test, part, error):
+        (self.keep if error is None else self.keep_failure)("addSubTest", test, part, error)
 
 
 class ProgramTest(unittest.TestCase):
@@ -59,18 +73,23 @@ class ProgramTest(unittest.TestCase):
         return program.path()
 
     def run(self, result=None):
+        """As the library has it, with the second try; what an interrupted test has opened is closed, too."""
         reason = getattr(getattr(self, self._testMethodName), "second_try", getattr(type(self), "second_try", None))
-        if reason is None or result is None:
-            return super().run(result)
-        first = Told()
-        super().run(first)
-        if first.failed:
-            second = Told()
-            super().run(second)
-            if not second.failed:
+        try:
+            return super().run(result) if reason is None or result is None else self.run_twice(result, reason)
+        except KeyboardInterrupt:
+            self.doCleanups()
+            raise
+
+    def run_twice(self, result, reason):
+        told = Told()
+        super().run(told)
+        if told.failed:
+            first, told = told, Told()
+            super().run(told)
+            if not told.failed:
                 SECOND_TRIES.append((self, reason, first.failed[0][1]))
-            first = second
-        first.tell(result)
+        told.tell(result)
         return result
 
     def closed_at_the_end(self, thing):

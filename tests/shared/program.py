@@ -12,7 +12,7 @@ import sys
 import time
 from types import SimpleNamespace
 
-from shared.messages import OWN, TARGET, bdecode, asks
+from shared.messages import OWN, TARGET, asks, bdecode
 
 ROOT = os.path.dirname(os.path.dirname(os.path.dirname(os.path.realpath(__file__))))
 BUILT = os.path.join(ROOT, "crates", "node_main", "out", "node_main")
