@@ -130,11 +130,13 @@ def end(child):
 
 
 def until(holds, seconds=20, pause=0.01):
-    """Whether it holds at last."""
+    """What holds at last, or what it is after these seconds, which is false."""
     end = time.monotonic() + seconds
-    while not holds() and time.monotonic() < end:
+    while True:
+        given = holds()
+        if given or time.monotonic() >= end:
+            return given
         time.sleep(pause)
-    return holds()
 
 
 def free_port():
@@ -154,8 +156,11 @@ def bound(port):
 
 
 def kept(port):
-    """The bytes that the system keeps for the socket of a port."""
-    return int(bound(port)[4].split(":")[1], 16)
+    """The bytes that the system keeps for the socket of a port. Its table may lack a row while other sockets come and go."""
+    row = until(lambda: bound(port), 1, 0.001)
+    if not row:
+        raise Failure("no socket has the port %d" % port)
+    return int(row[4].split(":")[1], 16)
 
 
 def state(child):
@@ -209,11 +214,11 @@ class Server:
         return bdecode(self.ask(asks(b"get_peers", info_hash=bytes(20))))[b"r"][b"token"]
 
     def is_waiting(self):
-        """Whether it has taken all that came to its socket, by the system's count of bytes there."""
-        row = bound(self.port)
-        if not row:
-            raise Failure("the node has no socket any more, status %s" % self.child.poll())
-        return int(row[4].split(":")[1], 16) == 0
+        """Whether it has taken all that came to its socket."""
+        try:
+            return kept(self.port) == 0
+        except Failure:
+            raise Failure("the node has no socket any more, status %s" % self.child.poll()) from None
 
     def send_all(self, datagrams):
         """Sends what is owed no reply, and no more of it at once than has a place in the node's socket."""
