@@ -122,7 +122,8 @@ class Disks(KeeperTest):
                 file.write(b"x" * 512)
 
     def test_a_full_disk_keeps_the_last_table(self):
-        """A table that is lost, or cut, when the disk is full; a node that isn't kept on; a disk that is full at the start and isn't named."""
+        """A table that is lost, or cut, when the disk is full; a node that isn't kept on; a disk that is full at the start and isn't
+        named."""
         kept = self.kept()
         is_small, filler = self.small_disk(kept.file("node")), kept.file("node/filler")
         kept.put("node/bootstrap", first_contacts(60))

@@ -31,7 +31,7 @@ def launch(words, text=None, **options):
     """What the launcher makes of words."""
     with launcher() as folder:
         words = [os.path.join(folder, "nolzavirt"), *words]
-        return subprocess.run(words, input=text, capture_output=True, text=True, **options)
+        return subprocess.run(words, input=text, capture_output=True, text=True, timeout=100, **options)
 
 
 def page(name):
