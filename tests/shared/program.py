@@ -177,9 +177,9 @@ def state(child):
 class Server:
     """A node that serves, and a socket that asks it. Whoever makes one closes it; closing it twice does nothing."""
 
-    def __init__(self, *more, text="", **options):
-        self.port, self.socket = free_port(), socket.socket(socket.AF_INET, socket.SOCK_DGRAM)
-        self.child = start([path(), "serve", "--bind", "127.0.0.1:%d" % self.port, *more], **options)
+    def __init__(self, *more, text="", port=None, command="serve", **options):
+        self.port, self.socket = port or free_port(), socket.socket(socket.AF_INET, socket.SOCK_DGRAM)
+        self.child = start([path(), command, "--bind", "127.0.0.1:%d" % self.port, *more], **options)
         try:
             hand(self.child, text)
         except BrokenPipeError:
