@@ -14,8 +14,8 @@ import time
 
 sys.path.insert(0, os.path.join(os.path.dirname(os.path.dirname(os.path.realpath(__file__))), "tests"))
 
-import dear  # noqa: E402
-from loopback import address_of, bdecode, bencode, compact, contact_line, nodes_of, query  # noqa: E402
+from shared import chosen_datagrams as chosen  # noqa: E402
+from shared.messages import address_of, bdecode, bencode, compact, contact_line, nodes_of, query  # noqa: E402
 
 ASKERS = 8  # sockets, at addresses of their own
 WATCHED, WATCHED_PEERS = 200, 12  # keys whose peers are held against what get_peers gives, and peers of each
@@ -247,14 +247,14 @@ class Load:
 
     def in_no_order(self):
         """A query, an answer to nobody or a value that is put, with keys in no order in one of its places."""
-        fill, _ = self.random.choice(dear.fills(self.random.randrange(200, 3_600)))
+        fill, _ = self.random.choice(chosen.fills(self.random.randrange(200, 3_600)))
         name = self.noise.next()
         if self.random.random() < 0.2:
-            return dear.putting(fill, self.noise.token or self.random.randbytes(8))
+            return chosen.putting(fill, self.noise.token or self.random.randbytes(8))
         if self.random.random() < 0.5:
             method = self.random.choice((b"find_node", b"get"))
-            return dear.asking(self.random.choice(dear.QUERY_PLACES), fill, self.random.randbytes(4), method)
-        return dear.saying(self.random.choice(dear.REPLY_PLACES), fill, self.random.randbytes(4), name)
+            return chosen.asking(self.random.choice(chosen.QUERY_PLACES), fill, self.random.randbytes(4), method)
+        return chosen.saying(self.random.choice(chosen.REPLY_PLACES), fill, self.random.randbytes(4), name)
 
     # ---- going on
 

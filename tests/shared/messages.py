@@ -33,10 +33,11 @@ def bencode(value):
     return b"d" + b"".join(bencode(key) + bencode(value[key]) for key in sorted(value)) + b"e"
 
 
-def bdecode(data):
-    """The one value that the bytes spell; ValueError where they spell none. It takes only ascending keys, as BEP 3 asks."""
+def bdecode(data, any_order=False):
+    """The one value that the bytes spell; ValueError where they spell none. It takes only ascending keys, as BEP 3 asks, or keys in
+    any order."""
     try:
-        value, end = _value(data, 0, 0)
+        value, end = _value(data, 0, 0, any_order)
     except (IndexError, RecursionError):
         raise ValueError("it ends too early") from None
     if end != len(data):
@@ -44,7 +45,7 @@ def bdecode(data):
     return value
 
 
-def _value(data, at, depth):
+def _value(data, at, depth, any_order):
     lead = data[at : at + 1]
     if depth > 32:
         raise ValueError("nested too deep")
@@ -54,16 +55,16 @@ def _value(data, at, depth):
     if lead == b"l":
         items, at = [], at + 1
         while data[at] != 0x65:
-            item, at = _value(data, at, depth + 1)
+            item, at = _value(data, at, depth + 1, any_order)
             items.append(item)
         return items, at + 1
     if lead == b"d":
         pairs, last, at = {}, None, at + 1
         while data[at] != 0x65:
-            key, at = _value(data, at, depth + 1)
-            if not isinstance(key, bytes) or last is not None and key <= last:
+            key, at = _value(data, at, depth + 1, any_order)
+            if not isinstance(key, bytes) or last is not None and key <= last and not any_order:
                 raise ValueError("keys out of order")
-            pairs[key], at = _value(data, at, depth + 1)
+            pairs[key], at = _value(data, at, depth + 1, any_order)
             last = key
         return pairs, at + 1
     colon = data.index(b":", at)
