@@ -65,11 +65,16 @@ impl Word {
         false
     }
 
+    /// Goes on from one state to another. False, with no change, where it is in another.
+    fn change(&self, from: u64, to: u64) -> bool {
+        self.state
+            .compare_exchange(from, to, Ordering::SeqCst, Ordering::SeqCst)
+            .is_ok()
+    }
+
     /// A helper comes. False where the desk was closed before.
     pub(crate) fn enter(&self) -> bool {
-        self.state
-            .compare_exchange(ABSENT, READY, Ordering::SeqCst, Ordering::SeqCst)
-            .is_ok()
+        self.change(ABSENT, READY)
     }
 
     /// Goes on to this state, and wakes the other side if it slept in that one.
@@ -88,8 +93,11 @@ impl Word {
         let _ = self.state.swap(READY, Ordering::SeqCst);
     }
 
+    /// The order is done. Who gave it may have fetched it before this is told, and closed the desk: then it stays closed.
     pub(crate) fn tell_done(&self) {
-        self.pass_to(DONE, AWAITED);
+        if !self.change(ORDERED, DONE) && self.change(AWAITED, DONE) {
+            self.state.wake_one();
+        }
     }
 
     pub(crate) fn close(&self) {
@@ -98,9 +106,7 @@ impl Word {
 
     /// Sleeps while the state is this one, and says so in it.
     fn sleep<R: Wait>(&self, rt: &R, seen: u64, sleeping: u64) {
-        let _ = self
-            .state
-            .compare_exchange(seen, sleeping, Ordering::SeqCst, Ordering::SeqCst);
+        let _ = self.change(seen, sleeping);
         self.state.park(rt, (sleeping & 7) as u32);
     }
 
