@@ -1,31 +1,9 @@
-"""What the crates' sources keep to, and no contract says: where memory is said to be short, and who uses whom."""
+"""What the crates' sources keep to, and no contract says: who uses whom."""
 
-import os
 import re
-import subprocess
 
 from shared.case import ProgramTest
 from shared.launcher import page
-from shared.program import ROOT
-
-# Bodies that end so although no allocation failed, and such as hand on that one did; each has a line, in which \n ends one.
-MADE_UP = r"""
-if n == usize::MAX { return Err(NoMemory); } Ok(())
-let Some(_more) = n.checked_add(1) else { return Err(NoMemory); }; Ok(())
-n.checked_add(1).ok_or(NoMemory)?; Ok(())
-match n.checked_add(1) { Some(_) => Ok(()), None =>\n{\nreturn Err(NoMemory);\n} }
-match text.parse::<u8>() { Ok(_) => Ok(()), Err(_) => Err(Fault::OutOfMemory) }
-match list.push(n) { Ok(()) => Ok(()), Err(NoMemory) if n > 9 => Err(NoMemory), Err(_) => Ok(()) }
-if list.reserve(n).is_err() || n > 9 { return Err(NoMemory); } Ok(())
-if all_well(list) { return Ok(()); } Err(NoMemory)
-"""
-PASSED_ON = r"""
-let Ok(_room) = Vec::with_capacity(alloc, n) else { return Err(NoMemory); }; Ok(())
-match list.push(n) { Ok(()) => Ok(()), Err(_) => Err(Fault::OutOfMemory) }
-match store(n) { Reply::NoMemory =>\n{\nErr(NoMemory)\n} _ => Ok(()) }
-if list.reserve(n).is_err() { return Err(NoMemory); } Ok(())
-list.push(n).map_err(|_| NoMemory)
-"""
 
 
 def storeys():
@@ -50,23 +28,6 @@ def storeys():
 
 
 class Sources(ProgramTest):
-    def made_up(self, *more):
-        return subprocess.run([os.path.join(ROOT, "tools/made_up"), *more], capture_output=True, text=True)
-
-    def test_no_memory_is_never_made_up(self):
-        """A body that ends as 'no memory' where no allocation failed, which every contract lets pass."""
-        for bodies, status in ((MADE_UP, 1), (PASSED_ON, 0)):
-            for body in bodies.strip().split("\n"):
-                with self.subTest(body):
-                    folder = self.folder()
-                    os.makedirs(folder + "/crates/some/src")
-                    with open(folder + "/crates/some/src/lib.rt", "w") as file:
-                        file.write("fn some() -> Result<(), NoMemory> {\n%s\n}\n" % body.replace(r"\n", "\n"))
-                    came = self.made_up(folder)
-                    self.assertEqual(came.returncode, status, came.stdout + came.stderr)
-        came = self.made_up()
-        self.assertEqual(came.returncode, 0, came.stdout + came.stderr)
-
     def test_a_crate_uses_its_own_storey_and_those_below(self):
         """A crate that uses one of a storey above its own, one that stands in no storey, or one that docs/ARCHITECTURE leaves out."""
         uses, wrong, at = {}, [], {}
