@@ -5,6 +5,8 @@
 mod helping;
 mod laying;
 mod posting;
+#[cfg(test)]
+mod tests;
 mod waiting;
 
 pub use helping::Helper;
