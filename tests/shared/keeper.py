@@ -94,10 +94,10 @@ class Kept:
         except OSError:
             return ""
 
-    def start(self, *more, shell=(), env=None, **options):
-        """The script at work. A minute of its own is a tenth of a second, too."""
+    def start(self, *more, shell=(), before=(), env=None, **options):
+        """The script at work, with words before the folder's and behind. A minute of its own is a tenth of a second, too."""
         env = {**os.environ, "PLACE": self.place, "NOLZAVIRT_KEEP_MINUTE": "1", **(env or {})}
-        words = [*shell, self.file("nolzavirt-keep"), self.file("node"), *more]
+        words = [*shell, self.file("nolzavirt-keep"), *before, self.file("node"), *more]
         streams = {"stdin": subprocess.DEVNULL, "stdout": subprocess.PIPE, "stderr": subprocess.PIPE, "text": True}
         self.children.append(subprocess.Popen(words, env=env, **streams, **options))
         return self.children[-1]
@@ -139,6 +139,8 @@ class KeeperTest(ProgramTest):
         """The script beside the stand-in, and these files of the folder that it keeps."""
         kept = self.closed_at_the_end(Kept())
         shutil.copy(SCRIPT, kept.place)
+        os.mkdir(kept.file("nolzavirt-files"))
+        os.symlink(os.path.join(ROOT, "share"), kept.file("nolzavirt-files/share"))
         kept.put("nolzavirt", STAND_IN)
         os.chmod(kept.file("nolzavirt"), 0o755)
         for name, text in files.items():

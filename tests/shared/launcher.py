@@ -20,7 +20,7 @@ def launcher():
         os.makedirs(out)
         for name in ("nolzavirt", "nolzavirt-keep", "crates.txt"):
             shutil.copy(os.path.join(ROOT, name), folder)
-        for name in ("share", "interop"):
+        for name in ("share", "interop", "tools"):
             os.symlink(os.path.join(ROOT, name), os.path.join(folder, name))
         os.symlink(program.path(), os.path.join(out, "node_main"))
         open(os.path.join(out, "launcher.stamp"), "w").close()
@@ -48,5 +48,6 @@ def first_cells(name):
 def options():
     """The rows of the launcher's table: an option, its values, and the commands that take it."""
     ended = subprocess.run([LAUNCHER, "--options"], capture_output=True, text=True, check=True)
-    rows = [[cell.strip() for cell in row.split("|")[1:-1]] for row in ended.stdout.splitlines()[2:]]
+    table = ended.stdout.partition("\n\n")[0]
+    rows = [[cell.strip() for cell in row.split("|")[1:-1]] for row in table.splitlines()[2:]]
     return [(row[0].strip("`"), row[1], row[3].split()) for row in rows]
