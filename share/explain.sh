@@ -80,6 +80,7 @@ explain() {
     shift
     case $status in
         3)
+            explain_bad_line "$1"
             if [ "$1" = refresh ]; then
                 say "the input isn't what 'table' or 'refresh' prints: that line can't stand there, or the text ends before it."
                 return
@@ -89,6 +90,10 @@ explain() {
             say "as [::1]:6881 has to be written out, as $(written_out '[::1]:6881')."
             [ "$1" != node ] || say "At most 16 lines may be others: 'find', 'peers' or 'get', a space and 40 hex digits;" \
                 "'announce KEY PORT'; or 'put' and a value in hex."
+            ;;
+        8)
+            explain_no_seeds "$@"
+            help_status 8 | sed 's/^8: no seeds: /nolzavirt: /' >&2
             ;;
         12)
             say "a value is one of bencode in its written form, in hex: of at most 1,000 bytes, nested at most 14 deep, keys in"
