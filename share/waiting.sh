@@ -66,7 +66,7 @@ draw_waiting() {
     columns=$(stty size 2>/dev/null <&2 | cut -d ' ' -f 2)
     [ "${columns:-0}" -gt 0 ] || columns=80
     while kill -0 $$ 2>/dev/null; do
-        sleep 1 </dev/null >/dev/null 2>&1
+        sleep 1 >/dev/null 2>&1
         if [ -n "$copier" ] && kill -0 "$copier" 2>/dev/null; then
             seconds=0 began=$(date +%H:%M:%S)
             continue
