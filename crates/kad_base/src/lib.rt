@@ -24,6 +24,6 @@ pub use outside::{Check, Link, Sink, Source};
 pub use serial::{Made, Serial};
 pub use steady::{SteadySink, SteadySource};
 pub use types::{
-    Addr, Came, Contact, Event, Failed, Family, Id, Ip, NoMemory, Policy, Proof, Report, family_of,
-    is_of, is_same, is_usable,
+    Addr, Came, ClaimRule, Contact, Event, Failed, Family, Id, Ip, NoMemory, Policy, Proof, Report,
+    family_of, is_of, is_same, is_usable,
 };

@@ -130,6 +130,15 @@ pub enum Policy {
     Puzzled { c1: u8, c2: u8 },
 }
 
+/// From when on a contact is the path's that has it, so that a lookup uses each node once (S/Kademlia, section 4.4): once it is
+/// named to the path, and no other path takes it then; or once the path asks it, and until then any path that is told of it
+/// may have it too.
+#[derive(Clone, Copy, Debug, PartialEq, Eq, Hash)]
+pub enum ClaimRule {
+    Named,
+    Asked,
+}
+
 /// The allocator gave no memory.
 #[derive(Clone, Copy, Debug, PartialEq, Eq)]
 pub struct NoMemory;
