@@ -1,11 +1,13 @@
 -- Contacts in lists, in filters of lists and among the closest.
-use Rattle.std.proofs.Common.{◌≡◌, ◌+◌, List, [], ◌∷◌, length, Bool, true, false, not, ◌||◌, ◌&&◌, cond, refl, sym, ap, subst, ◌∙◌, arith}
+use Rattle.std.proofs.Common.{◌≡◌, ◌+◌, ◌≤◌, List, [], ◌∷◌, ◌++◌, length, inl, inr, Bool, true, false, not, ◌||◌, ◌&&◌, cond, refl, sym, ap, subst, ◌∙◌, arith}
 use Rattle.std.specs.Prelude.{filter, find, Some, None}
-use Rattle.std.specs.List.{IsDistinct, AllByRecursion}
-use Rattle.std.proofs.lemmas.Bool.{or_left, or_right, and_parts, and_from, not-true}
+use Rattle.std.specs.List.{IsDistinct, AllByRecursion, Contains}
+use Rattle.std.proofs.lemmas.Bool.{or_cases, or_left, or_right, or_parts, and_parts, and_from, not-true}
+use Rattle.std.proofs.lemmas.List.Elements.{filter_agree}
 use Rattle.kad_base.specs.declared.types.Contact.{Contact}
 use Rattle.kad_base.specs.Contacts.{same, among, without}
-use Rattle.kad_base.proofs.Contacts.{same_exact, same_itself, same_back}
+use Rattle.kad_base.proofs.Contacts.{same_exact, same_itself, same_back, among_more}
+use Rattle.kad_distance.proofs.Members.{first_in, later_in, in_cases}
 
 pub among_itself : (c : Contact) → among (c ∷ []) c ≡ true
 among_itself c = ap (λ b. b || false) (same_itself c)
@@ -75,6 +77,66 @@ among_none cs e c = ap (λ l. among l c) e
 pub none_among : (cs : List Contact) → ((c : Contact) → among cs c ≡ false) → cs ≡ []
 none_among [] h = refl
 none_among (x ∷ cs) h = absurd (let e = sym (h x) ∙ or_left (same x x) (among cs x) (same_itself x) in cc)
+
+-- a contact that is among a list is in it
+pub in_list : (cs : List Contact) (c : Contact) → among cs c ≡ true → Contains cs c
+in_list [] c h = absurd cc
+in_list (x ∷ cs) c h = elim (or_cases (same c x) (among cs c) h) [ inl e ↦ subst (λ (z : Contact). Contains (x ∷ cs) z) (sym (same_exact c x e)) (first_in x cs) | inr r ↦ later_in x cs c (in_list cs c r) ]
+
+pub from_list : (cs : List Contact) (c : Contact) → Contains cs c → among cs c ≡ true
+from_list [] c (n, lt, e) = absurd (omega arith)
+from_list (x ∷ cs) c h = elim (in_cases x cs c h) [ inl is ↦ or_left (same c x) (among cs c) (subst (λ z. same z x ≡ true) is (same_itself x)) | inr more ↦ or_right (same c x) (among cs c) (from_list cs c more) ]
+
+-- a list without those of two is without those of one, and then of the other
+pub without_twice : (cs xs ys : List Contact) → without cs (xs ++ ys) ≡ without (without cs xs) ys
+without_twice [] xs ys = refl
+without_twice (c ∷ cs) xs ys =
+    ap (λ b. cond (not b) (c ∷ without cs (xs ++ ys)) (without cs (xs ++ ys))) (among_more xs ys c) ∙ by (among xs c) (without_twice cs xs ys)
+  where
+    by : (b : Bool) → without cs (xs ++ ys) ≡ without (without cs xs) ys → cond (not (b || among ys c)) (c ∷ without cs (xs ++ ys)) (without cs (xs ++ ys)) ≡ without (cond (not b) (c ∷ without cs xs) (without cs xs)) ys
+    by true e = e
+    by false e = ap (λ l. cond (not (among ys c)) (c ∷ l) l) e
+
+-- in either order
+pub without_swap : (cs xs ys : List Contact) → without (without cs xs) ys ≡ without (without cs ys) xs
+without_swap cs xs ys = sym (without_twice cs xs ys) ∙ filter_agree (λ c. not (among (xs ++ ys) c)) (λ c. not (among (ys ++ xs) c)) (λ c. ap not (among_more xs ys c ∙ flip (among xs c) (among ys c) ∙ sym (among_more ys xs c))) cs ∙ without_twice cs ys xs
+  where
+    flip : (a b : Bool) → (a || b) ≡ (b || a)
+    flip true true = refl
+    flip true false = refl
+    flip false true = refl
+    flip false false = refl
+
+-- one that isn't there is left out in vain
+pub without_absent : (cs : List Contact) (c : Contact) → among cs c ≡ false → without cs (c ∷ []) ≡ cs
+without_absent [] c h = refl
+without_absent (x ∷ cs) c h =
+    let parts = or_parts (same c x) (among cs c) h in
+    ap (λ b. cond (not (b || false)) (x ∷ without cs (c ∷ [])) (without cs (c ∷ []))) (same_back x c ∙ parts.0) ∙ ap (λ l. x ∷ l) (without_absent cs c parts.1)
+
+-- what none of the list is among is left out in vain
+pub without_apart : (cs out : List Contact) → ((c : Contact) → among cs c ≡ true → among out c ≡ false) → without cs out ≡ cs
+without_apart [] out f = refl
+without_apart (x ∷ cs) out f =
+    ap (λ b. cond (not b) (x ∷ without cs out) (without cs out)) (f x (or_left (same x x) (among cs x) (same_itself x)))
+    ∙ ap (λ l. x ∷ l) (without_apart cs out (λ c h. f c (or_right (same c x) (among cs c) h)))
+
+-- at least one less where one that is there is left out
+pub without_fewer : (cs : List Contact) (c : Contact) → among cs c ≡ true → length (without cs (c ∷ [])) + 1 ≤ length cs
+without_fewer [] c h = absurd cc
+without_fewer (x ∷ cs) c h =
+    elim (same x c) as (λ b. same x c ≡ b → length (cond (not (b || false)) (x ∷ without cs (c ∷ [])) (without cs (c ∷ []))) + 1 ≤ length (x ∷ cs)) [
+      | true ↦ λ e. (let few = fewer cs in omega arith)
+      | false ↦ λ e. (let rest = without_fewer cs c (sym (ap (λ b. b || among cs c) (same_back c x ∙ e)) ∙ h) in omega arith)
+    ] refl
+  where
+    fewer : (cs : List Contact) → length (without cs (c ∷ [])) ≤ length cs
+    fewer [] = omega arith
+    fewer (y ∷ cs) =
+        elim (same y c || false) as (λ b. length (cond (not b) (y ∷ without cs (c ∷ [])) (without cs (c ∷ []))) ≤ length (y ∷ cs)) [
+          | true ↦ (let few = fewer cs in omega arith)
+          | false ↦ (let few = fewer cs in omega arith)
+        ]
 
 -- how many are left where one more is out
 pub without_less : (cs out more : List Contact) (c : Contact) → IsDistinct same cs → among (without cs out) c ≡ true → ((x : Contact) → among more x ≡ (among out x || same x c)) → length (without cs more) + 1 ≡ length (without cs out)

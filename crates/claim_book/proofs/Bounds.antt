@@ -8,7 +8,7 @@ use Rattle.std.proofs.lemmas.List.{append-nil, length-append}
 use Rattle.std.proofs.lemmas.Bool.{eqb-true, eq-eqb, cases_lt}
 use Rattle.kad_base.specs.Limits.{max_path_contacts, max_reports}
 use Rattle.kad_base.specs.declared.types.Contact.{Contact}
-use Rattle.kad_base.specs.Contacts.{same, among}
+use Rattle.kad_base.specs.Contacts.{same}
 use Rattle.kad_base.proofs.Contacts.{contact_total}
 use Rattle.claim_book.specs.declared.types.Setting.{Setting}
 use Rattle.claim_book.specs.declared.types.Thing.TheVariants.{Responder, Told}
@@ -18,8 +18,8 @@ use Rattle.claim_book.specs.Journal.{on_path, took_of, path_of, answer_of, fail_
 use Rattle.claim_book.specs.Legal.{Fits, Legal}
 use Rattle.claim_book.specs.Room.{unsettled_room}
 use Rattle.claim_book.proofs.More.{took_more, path_more, answered_more, failed_more, turned_more, along}
-use Rattle.claim_book.proofs.Claims.{open_says, among_right, path_took, asked_on_path, asked_distinct, ended_asked, answered_asked}
-use Rattle.claim_book.proofs.Ends.{asked_by_some, path_below, first_below}
+use Rattle.claim_book.proofs.Claims.{open_says, among_right, asked_on_path, asked_took, asked_distinct, ended_asked, answered_asked}
+use Rattle.claim_book.proofs.Ends.{path_below, first_below}
 use Rattle.claim_book.proofs.Unsettled.{rooms_heard, rooms_kept}
 use Rattle.claim_book.proofs.Kept.{settle_owed, off_this}
 use Rattle.claim_book.proofs.Seeding.{seeds_rooms}
@@ -98,9 +98,6 @@ took_within s J z = along (λ J. length (took J) ≤ have s.paths J) s (omega ar
 
 pub took_few : (s : Setting) (J : List Entry) → 0 < s.paths → s.k < max_path_contacts → Legal s J → length (took J) ≤ max_path_contacts * s.paths
 took_few s J z k l = (let all = took_within s J z l in let few = have_few J (path_few s J k l) s.paths in omega arith)
-
-asked_took : (s : Setting) (J : List Entry) (c : Contact) → Legal s J → among (asked J) c ≡ true → among (took J) c ≡ true
-asked_took s J c l h = (let by = asked_by_some c J h in path_took by.0 J c (asked_on_path s J l by.0 c by.2))
 
 -- no more are asked than were taken
 pub asked_within : (s : Setting) (J : List Entry) → Legal s J → length (asked J) ≤ length (took J)

@@ -5,7 +5,9 @@ use Rattle.std.specs.List.{IsDistinct, AllByRecursion}
 use Rattle.std.proofs.lemmas.Cmp.{eq_by_cmp_equiv}
 use Rattle.std.proofs.lemmas.Map.Keys.{IsDistinct-push}
 use Rattle.std.proofs.lemmas.List.{append-nil}
-use Rattle.std.proofs.lemmas.Bool.{or_cases, or_left, or_right, or_parts, and_parts, not-true, eqb-true, ltb-true}
+use Rattle.std.proofs.lemmas.Bool.{or_cases, or_left, or_right, or_parts, and_parts, and_from, not-true, eqb-true, eqb-false, eq-eqb, ltb-true}
+use Rattle.kad_base.specs.declared.types.ClaimRule.{ClaimRule}
+use Rattle.kad_base.specs.declared.types.ClaimRule.TheVariants.{Named, Asked}
 use Rattle.kad_base.specs.declared.types.Contact.{Contact}
 use Rattle.kad_base.specs.Contacts.{same, among}
 use Rattle.kad_base.proofs.Contacts.{same_back, contact_total, among_more}
@@ -13,10 +15,10 @@ use Rattle.kad_distance.specs.KClosest.{k_closest}
 use Rattle.claim_book.specs.declared.types.Setting.{Setting}
 use Rattle.claim_book.specs.declared.types.Entry.{Entry}
 use Rattle.claim_book.specs.declared.types.Entry.TheVariants.{Seed, Ask, Heard, Lost, Taken}
-use Rattle.claim_book.specs.Journal.{on_path, took_of, path_of, ask_of, ask_on, answer_of, fail_of, took, path, asked, asked_on, answered, failed, open_any, open_on, alive, may_ask}
-use Rattle.claim_book.specs.Legal.{Fits, Legal}
-use Rattle.claim_book.proofs.More.{took_more, path_more, asked_more, asked_on_more, answered_more, failed_more, legal_more, along}
-use Rattle.claim_book.proofs.Among.{among_one, among_without, found_passes, found_among}
+use Rattle.claim_book.specs.Journal.{on_path, elsewhere, took_of, path_of, ask_of, ask_on, answer_of, fail_of, took, path, asked, asked_on, theirs, own, answered, failed, open_any, open_on, alive, may_ask}
+use Rattle.claim_book.specs.Legal.{IsFree, Fits, Legal}
+use Rattle.claim_book.proofs.More.{took_more, path_more, asked_more, asked_on_more, answered_more, failed_more, along}
+use Rattle.claim_book.proofs.Among.{among_one, among_without, found_passes, found_among, without_apart}
 use Rattle.claim_book.proofs.Closest.{closest_within, distinct_sorted}
 
 -- what an ask says of the contact
@@ -37,11 +39,37 @@ may_ask_says s q J c f = by_test (nat_lt (length (open_on q J)) s.alpha) refl f
     }
     by_test false t e = absurd cc
 
-pub alive_on_path : (q : ℕ) (J : List Entry) (c : Contact) → among (alive q J) c ≡ true → (among (path q J) c ≡ true) × (among (failed J) c ≡ false)
+pub no_true : (b : Bool) → (b ≡ true → ⊥) → b ≡ false
+no_true true n = absurd (n refl)
+no_true false n = refl
+
+-- what is a path's own is on it, and no other path asked it
+pub own_on_path : (p : ℕ) (J : List Entry) (c : Contact) → among (own p J) c ≡ true → (among (path p J) c ≡ true) × (among (theirs p J) c ≡ false)
+unfolding own
+own_on_path p J c h =
+    let parts = and_parts (among (path p J) c) (not (among (theirs p J) c)) (sym (among_without (path p J) (theirs p J) c) ∙ h) in
+    (parts.0, not-true (among (theirs p J) c) parts.1)
+
+pub path_own : (p : ℕ) (J : List Entry) (c : Contact) → among (path p J) c ≡ true → among (theirs p J) c ≡ false → among (own p J) c ≡ true
+unfolding own
+path_own p J c h out = among_without (path p J) (theirs p J) c ∙ and_from (among (path p J) c) (not (among (theirs p J) c)) h (ap not out)
+
+-- what is alive on a path is its own, and not lost
+pub alive_says : (q : ℕ) (J : List Entry) (c : Contact) → among (alive q J) c ≡ true → (among (own q J) c ≡ true) × (among (failed J) c ≡ false)
 unfolding alive
-alive_on_path q J c h =
-    let parts = and_parts (among (path q J) c) (not (among (failed J) c)) (sym (among_without (path q J) (failed J) c) ∙ h) in
+alive_says q J c h =
+    let parts = and_parts (among (own q J) c) (not (among (failed J) c)) (sym (among_without (own q J) (failed J) c) ∙ h) in
     (parts.0, not-true (among (failed J) c) parts.1)
+
+pub own_alive : (p : ℕ) (J : List Entry) (c : Contact) → among (own p J) c ≡ true → among (failed J) c ≡ false → among (alive p J) c ≡ true
+unfolding alive
+own_alive p J c h out = among_without (own p J) (failed J) c ∙ and_from (among (own p J) c) (not (among (failed J) c)) h (ap not out)
+
+pub alive_on_path : (q : ℕ) (J : List Entry) (c : Contact) → among (alive q J) c ≡ true → (among (path q J) c ≡ true) × (among (failed J) c ≡ false)
+alive_on_path q J c h = (let says = alive_says q J c h in ((own_on_path q J c says.0).0, says.1))
+
+pub alive_not_theirs : (q : ℕ) (J : List Entry) (c : Contact) → among (alive q J) c ≡ true → among (theirs q J) c ≡ false
+alive_not_theirs q J c h = (own_on_path q J c (alive_says q J c h).0).1
 
 -- who may be asked is on the path
 pub may_ask_on_path : (s : Setting) (q : ℕ) (J : List Entry) (c : Contact) → may_ask s q J ≡ Some c → among (path q J) c ≡ true
@@ -65,15 +93,19 @@ open_any_says J c h =
 stays : (xs ys : List Contact) → ys ≡ [] → IsDistinct same xs → IsDistinct same (xs ++ ys)
 stays xs ys e h = subst (IsDistinct same) (sym (append-nil xs) ∙ ap (λ l. xs ++ l) (sym e)) h
 
-took_step : (s : Setting) (J : List Entry) (e : Entry) → IsDistinct same (took J) → Fits s J e → IsDistinct same (took J ++ took_of e)
-took_step s J (Seed q c) h f = distinct_sorted s.target (took J ++ c ∷ []) f.in_order
-took_step s J (Taken q c) h f = IsDistinct-push (eq_by_cmp_equiv contact_total) (took J) c h f.1
-took_step s J other h f = stays _ _ refl h
+-- where a name is a claim, what is free was not taken
+pub free_named : (s : Setting) (J : List Entry) (p : ℕ) (c : Contact) → s.claim ≡ Named → IsFree s.claim J p c → among (took J) c ≡ false
+free_named s J p c n f = subst (λ r. IsFree r J p c) n f
 
--- no contact is taken twice
-pub took_distinct : (s : Setting) (J : List Entry) → Legal s J → IsDistinct same (took J)
+took_step : (s : Setting) (J : List Entry) (e : Entry) → s.claim ≡ Named → IsDistinct same (took J) → Fits s J e → IsDistinct same (took J ++ took_of e)
+took_step s J (Seed q c) n h f = distinct_sorted s.target (took J ++ c ∷ []) f.in_order
+took_step s J (Taken q c) n h f = IsDistinct-push (eq_by_cmp_equiv contact_total) (took J) c h (free_named s J q c n f.1)
+took_step s J other n h f = stays _ _ refl h
+
+-- where a name is a claim, no contact is taken twice
+pub took_distinct : (s : Setting) (J : List Entry) → s.claim ≡ Named → Legal s J → IsDistinct same (took J)
 unfolding took IsDistinct
-took_distinct s = along (λ J. IsDistinct same (took J)) s tt (λ J e l d f. subst (IsDistinct same) (sym (took_more J e)) (took_step s J e d f))
+took_distinct s J n l = along (λ J. IsDistinct same (took J)) s tt (λ J e l d f. subst (IsDistinct same) (sym (took_more J e)) (took_step s J e n d f)) J l
 
 asked_step : (s : Setting) (J : List Entry) (e : Entry) → IsDistinct same (asked J) → Fits s J e → IsDistinct same (asked J ++ ask_of e)
 asked_step s J (Ask q c) h f = IsDistinct-push (eq_by_cmp_equiv contact_total) (asked J) c h (may_ask_says s q J c f).new
@@ -216,20 +248,141 @@ path_entry s J (Seed n d) p q c h k = sym (on_path_in p n (d ∷ []) c h).0 ∙ 
 path_entry s J (Taken n d) p q c h k = sym (on_path_in p n (d ∷ []) c h).0 ∙ (on_path_in q n (d ∷ []) c k).0
 path_entry s J other p q c h k = absurd cc
 
-pub path_new : (s : Setting) (J : List Entry) (e : Entry) → Legal s (J ++ e ∷ []) → Fits s J e → (p : ℕ) (c : Contact) → among (path_of p e) c ≡ true → among (took J) c ≡ false
-path_new s J (Seed n d) l f p c h = subst (λ x. among (took J) x ≡ false) (sym (among_one c d (on_path_in p n (d ∷ []) c h).1)) (apart_last (took J) d (distinct_sorted s.target (took J ++ d ∷ []) f.in_order))
-path_new s J (Taken n d) l f p c h = subst (λ x. among (took J) x ≡ false) (sym (among_one c d (on_path_in p n (d ∷ []) c h).1)) f.1
-path_new s J other l f p c h = absurd cc
+-- a seed was not taken before
+pub seed_new : (s : Setting) (J : List Entry) (q : ℕ) (c : Contact) → Fits s J (Seed q c) → among (took J) c ≡ false
+seed_new s J q c f = apart_last (took J) c (distinct_sorted s.target (took J ++ c ∷ []) f.in_order)
 
--- no two paths have one contact
-pub one_path : (s : Setting) (J : List Entry) → Legal s J → (p q : ℕ) (c : Contact) → among (path p J) c ≡ true → among (path q J) c ≡ true → p ≡ q
+-- where a name is a claim, none that is taken was taken before
+pub path_new : (s : Setting) (J : List Entry) (e : Entry) → s.claim ≡ Named → Fits s J e → (p : ℕ) (c : Contact) → among (path_of p e) c ≡ true → among (took J) c ≡ false
+path_new s J (Seed n d) r f p c h = subst (λ x. among (took J) x ≡ false) (sym (among_one c d (on_path_in p n (d ∷ []) c h).1)) (seed_new s J n d f)
+path_new s J (Taken n d) r f p c h = subst (λ x. among (took J) x ≡ false) (sym (among_one c d (on_path_in p n (d ∷ []) c h).1)) (free_named s J n d r f.1)
+path_new s J other r f p c h = absurd cc
+
+-- where a name is a claim, no two paths have one contact
+pub one_path : (s : Setting) (J : List Entry) → s.claim ≡ Named → Legal s J → (p q : ℕ) (c : Contact) → among (path p J) c ≡ true → among (path q J) c ≡ true → p ≡ q
 unfolding path
-one_path s =
+one_path s J r l =
     along (λ J. (p q : ℕ) (c : Contact) → among (path p J) c ≡ true → among (path q J) c ≡ true → p ≡ q) s (λ p q c h k. absurd cc)
     (λ J e l d f p q c h k.
-    let new = path_new s J e (legal_more s J e l f) f in
+    let new = path_new s J e r f in
     let either = λ (n : ℕ) (t : among (path n (J ++ e ∷ [])) c ≡ true). or_cases (among (path n J) c) (among (path_of n e) c) (sym (among_more (path n J) (path_of n e) c) ∙ ap (λ l. among l c) (sym (path_more n J e)) ∙ t) in
     elim (either p h) [
       | inl a ↦ elim (either q k) [ inl b ↦ d p q c a b | inr b ↦ (let u = path_took p J c a in let v = new q c b in absurd cc) ]
       | inr a ↦ elim (either q k) [ inl b ↦ (let u = path_took q J c b in let v = new p c a in absurd cc) | inr b ↦ path_entry s J e p q c a b ]
     ])
+    J l
+
+-- ---- who asked a contact
+
+ask_entry : (s : Setting) (J : List Entry) (e : Entry) (p q : ℕ) (c : Contact) → among (ask_on p e) c ≡ true → among (ask_on q e) c ≡ true → p ≡ q
+ask_entry s J (Ask n d) p q c h k = sym (on_path_in p n (d ∷ []) c h).0 ∙ (on_path_in q n (d ∷ []) c k).0
+ask_entry s J other p q c h k = absurd cc
+
+ask_new : (s : Setting) (J : List Entry) (e : Entry) → Fits s J e → (p : ℕ) (c : Contact) → among (ask_on p e) c ≡ true → among (asked J) c ≡ false
+ask_new s J (Ask n d) f p c h = subst (λ x. among (asked J) x ≡ false) (sym (among_one c d (on_path_in p n (d ∷ []) c h).1)) (may_ask_says s n J d f).new
+ask_new s J other f p c h = absurd cc
+
+-- a contact is asked by one path
+pub one_asker : (s : Setting) (J : List Entry) → Legal s J → (p q : ℕ) (c : Contact) → among (asked_on p J) c ≡ true → among (asked_on q J) c ≡ true → p ≡ q
+unfolding asked_on
+one_asker s =
+    along (λ J. (p q : ℕ) (c : Contact) → among (asked_on p J) c ≡ true → among (asked_on q J) c ≡ true → p ≡ q) s (λ p q c h k. absurd cc)
+    (λ J e l d f p q c h k.
+    let new = ask_new s J e f in
+    let either = λ (n : ℕ) (t : among (asked_on n (J ++ e ∷ [])) c ≡ true). or_cases (among (asked_on n J) c) (among (ask_on n e) c) (sym (among_more (asked_on n J) (ask_on n e) c) ∙ ap (λ l. among l c) (sym (asked_on_more n J e)) ∙ t) in
+    elim (either p h) [
+      | inl a ↦ elim (either q k) [ inl b ↦ d p q c a b | inr b ↦ (let u = asked_on_asked p J c a in let v = new q c b in absurd cc) ]
+      | inr a ↦ elim (either q k) [ inl b ↦ (let u = asked_on_asked q J c b in let v = new p c a in absurd cc) | inr b ↦ ask_entry s J e p q c a b ]
+    ])
+
+-- what was asked was asked by the path or by another
+pub asked_split : (p : ℕ) (J : List Entry) (c : Contact) → among (asked J) c ≡ (among (asked_on p J) c || among (theirs p J) c)
+unfolding asked asked_on theirs
+asked_split p [] c = refl
+asked_split p (Ask q d ∷ J) c = by (eqb q p) (asked_split p J c)
+  where
+    by : (b : Bool) → among (asked J) c ≡ (among (asked_on p J) c || among (theirs p J) c) → (same c d || among (asked J) c) ≡ (among (cond b (d ∷ []) [] ++ asked_on p J) c || among (cond b [] (d ∷ []) ++ theirs p J) c)
+    by true e = ap (λ b. same c d || b) e ∙ front (same c d) (among (asked_on p J) c) (among (theirs p J) c)
+      where
+        front : (a b t : Bool) → (a || (b || t)) ≡ ((a || b) || t)
+        front true b t = refl
+        front false b t = refl
+    by false e = ap (λ b. same c d || b) e ∙ back (same c d) (among (asked_on p J) c) (among (theirs p J) c)
+      where
+        back : (a b t : Bool) → (a || (b || t)) ≡ (b || (a || t))
+        back true true t = refl
+        back true false t = refl
+        back false b t = refl
+asked_split p (e ∷ J) c = asked_split p J c
+
+pub theirs_asked : (p : ℕ) (J : List Entry) (c : Contact) → among (theirs p J) c ≡ true → among (asked J) c ≡ true
+theirs_asked p J c h = asked_split p J c ∙ or_right (among (asked_on p J) c) (among (theirs p J) c) h
+
+-- what is on another path
+pub elsewhere_in : (p q : ℕ) (xs : List Contact) (c : Contact) → among (elsewhere p q xs) c ≡ true → (eqb q p ≡ false) × (among xs c ≡ true)
+elsewhere_in p q xs c h = by_test (eqb q p) refl h
+  where
+    by_test : (b : Bool) → eqb q p ≡ b → among (cond b [] xs) c ≡ true → (eqb q p ≡ false) × (among xs c ≡ true)
+    by_test true t e = absurd cc
+    by_test false t e = (t, e)
+
+-- the path that asked what another path asked
+pub theirs_by : (p : ℕ) (J : List Entry) (c : Contact) → among (theirs p J) c ≡ true → (q : ℕ) × (eqb q p ≡ false) × (among (asked_on q J) c ≡ true)
+unfolding theirs asked_on
+theirs_by p [] c h = absurd cc
+theirs_by p (Ask n d ∷ J) c h =
+    elim (or_cases (among (elsewhere p n (d ∷ [])) c) (among (theirs p J) c) (sym (among_more (elsewhere p n (d ∷ [])) (theirs p J) c) ∙ h)) [
+      | inl a ↦
+          let off = elsewhere_in p n (d ∷ []) c a in
+          (n, off.0, among_left (on_path n n (d ∷ [])) (asked_on n J) c (ap (λ b. among (cond b (d ∷ []) []) c) (eq-eqb n n refl) ∙ off.1))
+      | inr b ↦
+          let r = theirs_by p J c b in
+          (r.0, r.1, among_right (on_path r.0 n (d ∷ [])) (asked_on r.0 J) c r.2)
+    ]
+theirs_by p (e ∷ J) c h = theirs_by p J c h
+
+pub in_theirs : (p q : ℕ) (J : List Entry) (c : Contact) → eqb q p ≡ false → among (asked_on q J) c ≡ true → among (theirs p J) c ≡ true
+unfolding theirs asked_on
+in_theirs p q [] c ne h = absurd cc
+in_theirs p q (Ask n d ∷ J) c ne h =
+    elim (or_cases (among (on_path q n (d ∷ [])) c) (among (asked_on q J) c) (sym (among_more (on_path q n (d ∷ [])) (asked_on q J) c) ∙ h)) [
+      | inl a ↦
+          let on = on_path_in q n (d ∷ []) c a in
+          among_left (elsewhere p n (d ∷ [])) (theirs p J) c (ap (λ b. among (cond b [] (d ∷ [])) c) (ap (λ m. eqb m p) on.0 ∙ ne) ∙ on.1)
+      | inr b ↦ among_right (elsewhere p n (d ∷ [])) (theirs p J) c (in_theirs p q J c ne b)
+    ]
+in_theirs p q (e ∷ J) c ne h = in_theirs p q J c ne h
+
+-- some path asked what was asked
+pub asked_by : (J : List Entry) (c : Contact) → among (asked J) c ≡ true → (q : ℕ) × (among (asked_on q J) c ≡ true)
+asked_by J c h =
+    elim (or_cases (among (asked_on 0 J) c) (among (theirs 0 J) c) (sym (asked_split 0 J c) ∙ h)) [
+      | inl a ↦ (0, a)
+      | inr b ↦ (let by = theirs_by 0 J c b in (by.0, by.2))
+    ]
+
+pub asked_took : (s : Setting) (J : List Entry) (c : Contact) → Legal s J → among (asked J) c ≡ true → among (took J) c ≡ true
+asked_took s J c l h = (let by = asked_by J c h in path_took by.0 J c (asked_on_path s J l by.0 c by.1))
+
+-- what a path asked no other path did
+pub asked_not_theirs : (s : Setting) (J : List Entry) → Legal s J → (p : ℕ) (c : Contact) → among (asked_on p J) c ≡ true → among (theirs p J) c ≡ false
+asked_not_theirs s J l p c h = no_true (among (theirs p J) c) (λ t. let by = theirs_by p J c t in eqb-false by.0 p by.1 (one_asker s J l by.0 p c by.2 h))
+
+-- where a name is a claim, all that a path has is its own
+pub own_is_path : (s : Setting) (J : List Entry) (p : ℕ) → s.claim ≡ Named → Legal s J → own p J ≡ path p J
+unfolding own
+own_is_path s J p r l =
+    without_apart (path p J) (theirs p J)
+    (λ c h. no_true (among (theirs p J) c) (λ t. let by = theirs_by p J c t in eqb-false by.0 p by.1 (one_path s J r l by.0 p c (asked_on_path s J l by.0 c by.2) h)))
+
+free_path : (rule : ClaimRule) (J : List Entry) (p : ℕ) (c : Contact) → IsFree rule J p c → among (path p J) c ≡ false
+free_path Named J p c f = no_true (among (path p J) c) (λ h. let t = path_took p J c h in absurd cc)
+free_path Asked J p c f = f.0
+
+free_asked : (s : Setting) (rule : ClaimRule) (J : List Entry) (p : ℕ) (c : Contact) → Legal s J → IsFree rule J p c → among (asked J) c ≡ false
+free_asked s Named J p c l f = no_true (among (asked J) c) (λ h. let t = asked_took s J c l h in absurd cc)
+free_asked s Asked J p c l f = f.1
+
+-- a contact that no path holds against path p isn't on it, and nobody asked it
+pub fresh_free : (s : Setting) (J : List Entry) (p : ℕ) (c : Contact) → Legal s J → IsFree s.claim J p c → (among (path p J) c ≡ false) × (among (asked J) c ≡ false)
+fresh_free s J p c l f = (free_path s.claim J p c f, free_asked s s.claim J p c l f)

@@ -1,5 +1,5 @@
 -- Who is among the k closest of a list: those of the list with fewer than k different others closer.
-use Rattle.std.proofs.Common.{◌≡◌, ℕ, ◌<◌, ◌≤◌, List, [], ◌∷◌, Bool, true, false, ◌||◌, ◌&&◌, cond, refl, sym, ap, subst, ◌∙◌, arith}
+use Rattle.std.proofs.Common.{◌≡◌, ℕ, ◌<◌, ◌≤◌, List, [], ◌∷◌, Bool, true, false, ◌||◌, ◌&&◌, not, ◌++◌, cond, refl, sym, ap, subst, ◌∙◌, arith}
 use Rattle.std.specs.Prelude.{filter, fold, nat_lt}
 use Rattle.std.specs.List.{IsDistinct, AllByRecursion}
 use Rattle.std.specs.List.Sorted.{IsStrictlySortedBy}
@@ -12,13 +12,14 @@ use Rattle.std.proofs.lemmas.Map.Made.{length-le_from_is_member}
 use Rattle.std.proofs.lemmas.Bool.{and_parts, and_from, lt-ltb, ltb-true}
 use Rattle.kad_base.specs.declared.types.Id.{Id}
 use Rattle.kad_base.specs.declared.types.Contact.{Contact}
-use Rattle.kad_base.specs.Contacts.{same, among}
-use Rattle.kad_base.proofs.Contacts.{same_exact, contact_total}
+use Rattle.kad_base.specs.Contacts.{same, among, without}
+use Rattle.kad_base.proofs.Contacts.{same_exact, contact_total, among_more}
 use Rattle.kad_distance.specs.Order.{closeness}
 use Rattle.kad_distance.specs.KClosest.{by_ordering, put, each_once, count_below, least, k_closest}
 use Rattle.kad_distance.proofs.Orders.{closeness_total, closeness_exact}
 use Rattle.kad_distance.proofs.Least.{each_once_rises}
-use Rattle.claim_book.proofs.Among.{among_filter}
+use Rattle.kad_distance.proofs.Chosen.{closest_same, closest_beyond}
+use Rattle.claim_book.proofs.Among.{among_filter, among_one, among_without, in_list, from_list, without_absent}
 
 or_swap : (a b c : Bool) → (a || (b || c)) ≡ ((a || b) || c)
 or_swap true b c = refl
@@ -128,6 +129,29 @@ closest_of_fewer t k S T c sub here h =
 -- the k closest are of the list
 pub closest_within : (t : Id) (k : ℕ) (S : List Contact) (c : Contact) → among (k_closest t k S) c ≡ true → among S c ≡ true
 closest_within t k S c h = (and_parts (among S c) (nat_lt (count_below (closeness t) S c) k) (sym (among_closest t k S c) ∙ h)).0
+
+-- lists with the same contacts have the same k closest
+pub closest_alike : (t : Id) (k : ℕ) (S T : List Contact) → ((c : Contact) → among S c ≡ among T c) → k_closest t k S ≡ k_closest t k T
+closest_alike t k S T f = closest_same t k S T (λ c. (λ i. in_list T c (sym (f c) ∙ from_list S c i), λ i. in_list S c (f c ∙ from_list T c i)))
+
+-- one that isn't among the k closest may be left out
+pub closest_stays : (t : Id) (k : ℕ) (A : List Contact) (c : Contact) → among (k_closest t k A) c ≡ false → k_closest t k (without A (c ∷ [])) ≡ k_closest t k A
+closest_stays t k A c out = by (among A c) refl
+  where
+    rejoin : (a b : Bool) → (b ≡ true → a ≡ true) → ((a && not b) || b) ≡ a
+    rejoin true true f = refl
+    rejoin true false f = refl
+    rejoin false true f = sym (f refl)
+    rejoin false false f = refl
+
+    by : (b : Bool) → among A c ≡ b → k_closest t k (without A (c ∷ [])) ≡ k_closest t k A
+    by true h =
+        let S = without A (c ∷ []) in
+        let whole : k_closest t k (S ++ c ∷ []) ≡ k_closest t k A =
+        closest_alike t k (S ++ c ∷ []) A
+        (λ d. among_more S (c ∷ []) d ∙ ap (λ b. b || among (c ∷ []) d) (among_without A (c ∷ []) d) ∙ rejoin (among A d) (among (c ∷ []) d) (λ e. subst (λ x. among A x ≡ true) (sym (among_one d c e)) h)) in
+        sym (closest_beyond t k S c (λ i. let here = sym (ap (λ l. among l c) whole) ∙ from_list (k_closest t k (S ++ c ∷ [])) c i in absurd cc)) ∙ whole
+    by false h = ap (k_closest t k) (without_absent A c h)
 
 pub sorted_two : (R : Contact → Contact → Ordering) (a b : Contact) → R a b ≡ Less → IsStrictlySortedBy R (a ∷ b ∷ [])
 unfolding IsStrictlySortedBy

@@ -1,5 +1,5 @@
 -- The index of a journal that has seeds alone, one seed after the other.
-use Rattle.std.proofs.Common.{◌≡◌, ℕ, ◌+◌, ◌%◌, ◌<◌, ◌≤◌, [], ◌∷◌, length, take, get_or, set, false, cond, refl, sym, ap, subst, ◌∙◌, ◌++◌, true, List, arith}
+use Rattle.std.proofs.Common.{◌≡◌, ℕ, ◌+◌, ◌%◌, ◌<◌, ◌≤◌, [], ◌∷◌, length, take, get_or, set, cond, refl, sym, ap, subst, ◌∙◌, ◌++◌, true, List, arith}
 use Rattle.std.specs.List.{All}
 use Rattle.std.specs.List.Sorted.{IsStrictlySortedBy}
 use Rattle.std.specs.Prelude.{drop, vec_capacity}
@@ -7,7 +7,7 @@ use Rattle.std.proofs.lemmas.List.{length-take-le, drop_more, append-nil}
 use Rattle.std.proofs.lemmas.Bool.{eq-eqb}
 use Rattle.kad_base.specs.Limits.{max_path_contacts}
 use Rattle.kad_base.specs.declared.types.Contact.{Contact}
-use Rattle.kad_base.specs.Contacts.{among, IsUsable}
+use Rattle.kad_base.specs.Contacts.{IsUsable}
 use Rattle.kad_distance.specs.Order.{closeness}
 use Rattle.kad_distance.specs.KClosest.{put}
 use Rattle.claim_book.specs.declared.types.Setting.{Setting}
@@ -15,25 +15,19 @@ use Rattle.claim_book.specs.declared.types.Counts.{Counts}
 use Rattle.claim_book.specs.declared.types.Entry.{Entry}
 use Rattle.claim_book.specs.declared.types.Entry.TheVariants.{Seed}
 use Rattle.claim_book.specs.declared.path.Path.{Path}
-use Rattle.claim_book.specs.Journal.{took, path}
+use Rattle.claim_book.specs.Journal.{path}
 use Rattle.kad_base.specs.Hosts.{host}
 use Rattle.claim_book.specs.Crowded.{crowd}
-use Rattle.claim_book.specs.Legal.{SeedFits, Legal, dealt, stays, seeded}
+use Rattle.claim_book.specs.Legal.{SeedFits, dealt, stays, seeded}
 use Rattle.claim_book.specs.Calls.{Counted}
 use Rattle.claim_book.specs.declared.claim_map.Claims.{Claims}
 use Rattle.claim_book.specs.Claims.{Takes, Keeps, IsMap}
 use Rattle.claim_book.specs.Index.{IsPaths}
-use Rattle.claim_book.proofs.More.{legal_more}
-use Rattle.claim_book.proofs.Among.{among_itself}
-use Rattle.claim_book.proofs.Claims.{path_new}
+use Rattle.claim_book.proofs.Claims.{seed_new}
 use Rattle.claim_book.proofs.Bounds.{path_within}
 use Rattle.claim_book.proofs.Seeding.{Begins, seeded_seeds, seeds_asked, seeds_failed, seeds_turned, seeded_more, dealt_length, seed_fits, begins_at, stays_unless, stays_not}
 use Rattle.claim_book.proofs.Mapped.{map_seeded, map_wider}
 use Rattle.claim_book.proofs.Pathed.{paths_put, path_at, path_seeded}
-
--- a seed that fits is new
-seed_new : (s : Setting) (J : List Entry) (q : ℕ) (c : Contact) → Legal s J → SeedFits s J q c → among (took J) c ≡ false
-seed_new s J q c l f = path_new s J (Seed q c) (legal_more s J (Seed q c) l f) f q c (ap (λ b. among (cond b (c ∷ []) []) c) (eq-eqb q q refl) ∙ among_itself c)
 
 -- the i-th seed is dealt
 pub record Deals (s : Setting) (cs : List Contact) (i : ℕ) : Type 0 where
@@ -81,12 +75,12 @@ front_left s cs i x d z le =
 pub dealt_items : (s : Setting) (cs : List Contact) (i : ℕ) (x : Contact) (J K : List Entry) → Deals s cs i → IsFree s cs i (get_or cs i x) → J ≡ front s cs i → K ≡ J ++ Seed (i % s.paths) (get_or cs i x) ∷ [] → K ≡ front s cs (i + 1)
 dealt_items s cs i x J K d free was is = is ∙ ap (λ l. l ++ Seed (i % s.paths) (get_or cs i x) ∷ []) was ∙ sym (front_kept s cs i x d free)
 
-pub dealt_map : (s : Setting) (cs : List Contact) (i : ℕ) (x : Contact) (m n o : Claims) → Deals s cs i → IsFree s cs i (get_or cs i x) → IsMap s (front s cs i) m → Keeps m n → Takes s.per_address n o (i % s.paths) (get_or cs i x) → IsMap s (front s cs (i + 1)) o
+pub dealt_map : (s : Setting) (cs : List Contact) (i : ℕ) (x : Contact) (m n o : Claims) → Deals s cs i → IsFree s cs i (get_or cs i x) → IsMap s (front s cs i) m → Keeps m n → Takes s n o (i % s.paths) (get_or cs i x) → IsMap s (front s cs (i + 1)) o
 dealt_map s cs i x m n o d free h wider takes =
     let J = front s cs i in
     let l = (begins s cs i x d).legal in
     let f = fits_here s cs i x d free in
-    subst (λ j. IsMap s j o) (sym (front_kept s cs i x d free)) (map_seeded s J (i % s.paths) (get_or cs i x) n o l f (seed_new s J (i % s.paths) (get_or cs i x) l f) (map_wider s J m n h wider) takes)
+    subst (λ j. IsMap s j o) (sym (front_kept s cs i x d free)) (map_seeded s J (i % s.paths) (get_or cs i x) n o l f (seed_new s J (i % s.paths) (get_or cs i x) f) (map_wider s J m n h wider) takes)
 
 -- the path that it is dealt to is there, and isn't full
 pub dealt_within : (s : Setting) (cs : List Contact) (i : ℕ) (xs : List Path) → Deals s cs i → IsPaths s (front s cs i) xs → i % s.paths < length xs
@@ -117,8 +111,8 @@ dealt_paths s cs i c xs x y d free h at near near_room fresh fresh_room count op
     let f = fits_here s cs i c d free in
     let lt = dealt_within s cs i xs d h in
     subst (λ j. IsPaths s j (set xs p y)) (sym (front_kept s cs i c d free))
-    (paths_put s J (Seed p (get_or cs i c)) p xs y l f (eq-eqb p p refl) lt h
-    (path_seeded s J p (get_or cs i c) x y l (seed_new s J p (get_or cs i c) l f) (path_at s J xs p x h lt at) near near_room fresh fresh_room count opens queue))
+    (paths_put s J (Seed p (get_or cs i c)) p xs y l f refl (eq-eqb p p refl) lt h
+    (path_seeded s J p (get_or cs i c) x y l (seed_new s J p (get_or cs i c) f) (path_at s J xs p x h lt at) near near_room fresh fresh_room count opens queue))
 
 -- nobody was asked
 pub dealt_counts : (s : Setting) (cs : List Contact) (counts : Counts) → counts.asked ≡ 0 → counts.failed ≡ 0 → counts.turned ≡ 0 → Counted (seeded s.per_address s.paths cs) counts

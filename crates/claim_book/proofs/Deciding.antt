@@ -93,6 +93,17 @@ open_on_asker J c h =
     let ended : among (answered J ++ failed J) c ≡ false = among_more (answered J) (failed J) c ∙ ap (λ b. b || among (failed J) c) says.1 ∙ says.2 in
     among_without (asked_on (asker c J) J) (answered J ++ failed J) c ∙ and_from (among (asked_on (asker c J) J) c) (not (among (answered J ++ failed J) c)) ask (ap not ended)
 
+-- the first path that asked the contact
+pub some_asker : (J : List Entry) (c : Contact) (q : ℕ) → Some q ≡ slice_get (askers c J) 0 → among (asked_on q J) c ≡ true
+some_asker J c q e =
+    let by = asked_by_some c J (asker_asked c J q (sym e)) in
+    let first_one = by.1 in
+    let is : by.0 ≡ q = cc in
+    subst (λ n. among (asked_on n J) c ≡ true) is by.2
+
+pub no_asker : (J : List Entry) (c : Contact) → None ≡ slice_get (askers c J) 0 → among (asked J) c ≡ false
+no_asker J c e = false_from_ne_true (among (asked J) c) (λ h. let by = asked_by_some c J h in let clash = by.1 in absurd cc)
+
 pub some_holder : (J : List Entry) (c : Contact) (q : ℕ) → Some q ≡ slice_get (holders c J) 0 → among (path q J) c ≡ true
 unfolding holders path
 some_holder [] c q e = absurd cc

@@ -6,6 +6,8 @@ use Rattle.std.proofs.lemmas.List.Elements.{Contains-append_left, Contains-appen
 use Rattle.std.proofs.lemmas.Option.{get_or_from_slice_get}
 use Rattle.std.proofs.lemmas.Bool.{eqb-true, eq-eqb}
 use Rattle.kad_base.specs.Limits.{max_path_contacts}
+use Rattle.kad_base.specs.declared.types.ClaimRule.{ClaimRule}
+use Rattle.kad_base.specs.declared.types.ClaimRule.TheVariants.{Named, Asked}
 use Rattle.kad_base.specs.declared.types.Contact.{Contact}
 use Rattle.kad_base.specs.declared.types.Report.{Report}
 use Rattle.kad_base.specs.Contacts.{among, IsUsable}
@@ -15,15 +17,15 @@ use Rattle.claim_book.specs.declared.types.Thing.{Thing}
 use Rattle.claim_book.specs.declared.types.Thing.TheVariants.{Responder, Told}
 use Rattle.claim_book.specs.declared.types.Entry.{Entry}
 use Rattle.claim_book.specs.declared.types.Entry.TheVariants.{Seed, Heard, Note, Taken, Held, Turned, Rejected, Skipped}
-use Rattle.claim_book.specs.Journal.{things_in, things_of, took_of, path_of, ask_on, settles_on, took, path, asked_on, things, settled, unsettled, first_unsettled}
-use Rattle.claim_book.specs.Legal.{Fits, Legal, Believed}
+use Rattle.claim_book.specs.Journal.{things_in, things_of, took_of, path_of, ask_of, ask_on, settles_on, took, path, asked, asked_on, things, settled, unsettled, first_unsettled}
+use Rattle.claim_book.specs.Legal.{Fits, IsHeldBy, Legal, Believed}
 use Rattle.kad_base.specs.Hosts.{host}
 use Rattle.claim_book.specs.Crowded.{IsCrowded}
-use Rattle.claim_book.specs.Lineage.{Names, Descends, HasLineage, Closed, IsContained, SettlesReport, TakesUnlessHeld, DropsNone, GoesByOwnAnswers}
+use Rattle.claim_book.specs.Lineage.{Names, Descends, HasLineage, Closed, IsContained, SettlesReport, IsHeld, TakesUnlessHeld, DropsNone, LosesNoneToNames, GoesByOwnAnswers}
 use Rattle.claim_book.proofs.Crowds.{crowd_grows}
-use Rattle.claim_book.proofs.More.{took_more, path_more, asked_on_more, things_more, fits_in, along}
+use Rattle.claim_book.proofs.More.{took_more, path_more, asked_more, asked_on_more, things_more, fits_in, along}
 use Rattle.claim_book.proofs.Among.{among_itself, among_one}
-use Rattle.claim_book.proofs.Claims.{open_says, on_path_in, among_left, among_right, each_more, asked_on_path, path_took}
+use Rattle.claim_book.proofs.Claims.{open_says, on_path_in, among_left, among_right, each_more, asked_on_path, asked_on_asked, path_took}
 use Rattle.claim_book.proofs.Unsettled.{first_within, front_of, settles, unsettled_settle, unsettled_other}
 
 -- ---- what an answer named
@@ -165,8 +167,25 @@ is_contained s J l p H k = record {
 
 -- ---- what is not taken
 
+-- one path that holds it, some path holds it
+held_by : (rule : ClaimRule) (J : List Entry) (p by : ℕ) (c : Contact) → IsHeldBy rule J p c by → IsHeld rule J p c
+held_by Named J p by c h = path_took by J c h
+held_by Asked J p by c (inl h) = inl h.1
+held_by Asked J p by c (inr h) = inr (asked_on_asked by J c h.1)
+
+-- it is held from then on
+held_more : (rule : ClaimRule) (J : List Entry) (e : Entry) (p : ℕ) (c : Contact) → IsHeld rule J p c → IsHeld rule (J ++ e ∷ []) p c
+held_more Named J e p c h = ap (λ l. among l c) (took_more J e) ∙ among_left (took J) (took_of e) c h
+held_more Asked J e p c (inl h) = inl (ap (λ l. among l c) (path_more p J e) ∙ among_left (path p J) (path_of p e) c h)
+held_more Asked J e p c (inr h) = inr (ap (λ l. among l c) (asked_more J e) ∙ among_left (asked J) (ask_of e) c h)
+
+-- whoever takes it holds it
+taken_held : (rule : ClaimRule) (J : List Entry) (p : ℕ) (c : Contact) → IsHeld rule (J ++ Taken p c ∷ []) p c
+taken_held Named J p c = ap (λ l. among l c) (took_more J (Taken p c)) ∙ among_right (took J) (c ∷ []) c (among_itself c)
+taken_held Asked J p c = inl (ap (λ l. among l c) (path_more p J (Taken p c) ∙ ap (λ b. path p J ++ cond b (c ∷ []) []) (eq-eqb p p refl)) ∙ among_right (path p J) (c ∷ []) c (among_itself c))
+
 abbrev TakenOrHeld : Setting → List Entry → Entry → ℕ → Contact → Type 0
-TakenOrHeld s J e p c = (e ≡ Taken p c) ⊎ (among (took J) c ≡ true) ⊎ (length (path p J) ≡ max_path_contacts) ⊎ IsCrowded s J p c
+TakenOrHeld s J e p c = (e ≡ Taken p c) ⊎ IsHeld s.claim J p c ⊎ (length (path p J) ≡ max_path_contacts) ⊎ IsCrowded s J p c
 
 -- the report that was believed is the one that stood first
 believed_first : (s : Setting) (J : List Entry) (q p : ℕ) (c : Contact) (r : Report) → Believed s J q c → q ≡ p → first_unsettled p J ≡ Some (Told r) → c ≡ r.contact
@@ -180,8 +199,9 @@ settled_by s J (Taken q c) p r f x u v =
     let is = eqb-true q p x.settles in
     inl (ap (λ n. Taken n c) is ∙ ap (Taken p) (believed_first s J q p c r f.0 is x.first))
 settled_by s J (Held q c by) p r f x u v =
-    let is = believed_first s J q p c r f.0 (eqb-true q p x.settles) x.first in
-    inr (inl (ap (among (took J)) (sym is) ∙ path_took by J c f.1))
+    let same = eqb-true q p x.settles in
+    let is = believed_first s J q p c r f.0 same x.first in
+    inr (inl (subst (IsHeld s.claim J p) is (subst (λ n. IsHeld s.claim J n c) same (held_by s.claim J q by c f.1))))
 settled_by s J (Turned q c) p r f x u v =
     let is = eqb-true q p x.settles in
     elim f.2 [
@@ -230,14 +250,14 @@ answer_things p (e ∷ J) c reports r h k =
       | inr rest ↦ Contains-append_right (things_of p e) (things p J) (Told r) (answer_things p J c reports r rest k)
     ]
 
--- the contact is on some path, or path p is full, or crowded by its host
+-- the contact is held, or path p is full, or crowded by its host
 abbrev IsTakenOrFull : Setting → List Entry → ℕ → Contact → Type 0
-IsTakenOrFull s J p c = (among (took J) c ≡ true) ⊎ (max_path_contacts ≤ length (path p J)) ⊎ IsCrowded s J p c
+IsTakenOrFull s J p c = IsHeld s.claim J p c ⊎ (max_path_contacts ≤ length (path p J)) ⊎ IsCrowded s J p c
 
 stands_more : (s : Setting) (J : List Entry) (e : Entry) (p : ℕ) (c : Contact) → IsTakenOrFull s J p c → IsTakenOrFull s (J ++ e ∷ []) p c
 stands_more s J e p c h =
     elim h [
-      | inl a ↦ inl (ap (λ l. among l c) (took_more J e) ∙ among_left (took J) (took_of e) c a)
+      | inl a ↦ inl (held_more s.claim J e p c a)
       | inr (inl b) ↦ inr (inl (omega (arith, b, ap length (path_more p J e), length-append (path p J) (path_of p e))))
       | inr (inr x) ↦ inr (inr (record { limited = x.limited; as_many = crowd_grows p (host c.addr) J e s.per_address x.as_many }))
     ]
@@ -245,7 +265,7 @@ stands_more s J e p c h =
 taken_stands : (s : Setting) (J : List Entry) (e : Entry) (p : ℕ) (c : Contact) → TakenOrHeld s J e p c → IsTakenOrFull s (J ++ e ∷ []) p c
 taken_stands s J e p c h =
     elim h [
-      | inl is ↦ inl (ap (λ l. among l c) (took_more J e) ∙ among_right (took J) (took_of e) c (subst (λ x. among (took_of x) c ≡ true) (sym is) (among_itself c)))
+      | inl is ↦ inl (subst (λ x. IsHeld s.claim (J ++ x ∷ []) p c) (sym is) (taken_held s.claim J p c))
       | inr (inl a) ↦ stands_more s J e p c (inl a)
       | inr (inr (inl b)) ↦ stands_more s J e p c (inr (inl (omega (arith, b))))
       | inr (inr (inr x)) ↦ stands_more s J e p c (inr (inr x))
@@ -302,7 +322,19 @@ drops_none s J l p responder c settled_all n =
       | inr stands ↦ subst (IsTakenOrFull s J p) n.of_it stands
     ]
 
+-- ---- what a name takes away
+
+-- nothing, where only an ask is a claim
+pub loses_none : (s : Setting) (J : List Entry) → Legal s J → LosesNoneToNames s J
+unfolding LosesNoneToNames DropsNone
+loses_none s J l is p responder c settled_all n =
+    elim (drops_none s J l p responder c settled_all n) [
+      | inl held ↦ elim (subst (λ rule. IsHeld rule J p c) is held) [ inl here ↦ inl here | inr asks ↦ inr (inl asks) ]
+      | inr (inl full) ↦ inr (inr (inl full))
+      | inr (inr crowded) ↦ inr (inr (inr crowded))
+    ]
+
 -- ---- the whole
 
 pub own_answers : (s : Setting) (J : List Entry) → Legal s J → GoesByOwnAnswers s J
-own_answers s J l = record { lineage = has_lineage s J l; contained = is_contained s J l; taken_unless_held = takes_unless_held s J l; none_dropped = drops_none s J l }
+own_answers s J l = record { lineage = has_lineage s J l; contained = is_contained s J l; taken_unless_held = takes_unless_held s J l; none_dropped = drops_none s J l; none_lost = loses_none s J l }

@@ -3,7 +3,7 @@ use Rattle.std.proofs.Common.{◌≡◌, ℕ, zero, suc, ◌<◌, ◌≤◌, Lis
 use Rattle.std.specs.Prelude.{find, drop, slice_get, IsSome}
 use Rattle.std.specs.List.{AllByRecursion, All}
 use Rattle.std.proofs.lemmas.List.Elements.{All-from_recursion, recursion_from_All}
-use Rattle.std.proofs.lemmas.Bool.{or_cases, or_left, or_right, and_parts, and_from, eqb-true, lt-ltb, cases_lt, eq-eqb, ne_eqb}
+use Rattle.std.proofs.lemmas.Bool.{or_cases, or_left, or_right, and_parts, and_from, not-true, eqb-true, lt-ltb, cases_lt, eq-eqb, ne_eqb}
 use Rattle.kad_base.specs.declared.types.Contact.{Contact}
 use Rattle.kad_base.specs.Contacts.{same, among, without}
 use Rattle.kad_base.proofs.Contacts.{same_exact, same_itself, among_more}
@@ -12,14 +12,14 @@ use Rattle.claim_book.specs.declared.types.Setting.{Setting}
 use Rattle.claim_book.specs.declared.types.Thing.{Thing}
 use Rattle.claim_book.specs.declared.types.Entry.{Entry}
 use Rattle.claim_book.specs.declared.types.Entry.TheVariants.{Seed, Ask, Heard, Lost, Note, Taken, Held, Turned, Rejected, Skipped}
-use Rattle.claim_book.specs.Journal.{on_path, path_of, ask_on, things_of, took, path, asked, asked_on, askers, holders, answered, failed, open_on, alive, things, settled, unsettled, first_unsettled, may_ask}
+use Rattle.claim_book.specs.Journal.{on_path, path_of, ask_on, things_of, took, path, asked, asked_on, theirs, own, askers, holders, answered, failed, open_on, alive, things, settled, unsettled, first_unsettled, may_ask}
 use Rattle.claim_book.specs.Legal.{Fits, Legal, is_of, IsSeed}
 use Rattle.claim_book.specs.RunOut.{RunOut}
 use Rattle.claim_book.specs.Result.{result_of}
 use Rattle.claim_book.proofs.More.{path_more, asked_on_more, things_more, last_fits, along}
 use Rattle.claim_book.proofs.Among.{among_without, none_found, among_none}
 use Rattle.claim_book.proofs.Closest.{closest_within, closest_of_fewer}
-use Rattle.claim_book.proofs.Claims.{may_ask_says, may_ask_on_path, alive_on_path, open_says, among_left, among_right, answered_asked, one_path, asked_on_path, path_took}
+use Rattle.claim_book.proofs.Claims.{may_ask_says, may_ask_on_path, open_says, among_left, among_right, answered_asked, asked_on_path, path_took, no_true, own_on_path, path_own, alive_says, own_alive, asked_split, theirs_asked, asked_not_theirs}
 
 -- a contact of each of a list
 pub each_from_all : (P : Contact → Type 0) (cs : List Contact) → All P cs → (c : Contact) → among cs c ≡ true → P c
@@ -144,18 +144,26 @@ first_below s J q t z l h =
       | inr ge ↦ absurd (none_first q J t (beyond s J z l q ge).no_things h)
     ]
 
+-- what was taken is a path's own: its asker's, or where there is none that of any path that has it
+pub own_by_some : (s : Setting) (J : List Entry) (c : Contact) → Legal s J → among (took J) c ≡ true → (q : ℕ) × (among (own q J) c ≡ true)
+own_by_some s J c l h =
+    elim (among (asked J) c) as (λ b. among (asked J) c ≡ b → (q : ℕ) × (among (own q J) c ≡ true)) [
+      | true ↦ λ a. (let by = asked_by_some c J a in (by.0, path_own by.0 J c (asked_on_path s J l by.0 c by.2) (asked_not_theirs s J l by.0 c by.2)))
+      | false ↦ λ a. (let by = held_by_some c J h in (by.0, path_own by.0 J c by.2 (no_true (among (theirs by.0 J) c) (λ t. let u = theirs_asked by.0 J c t in absurd cc))))
+    ] refl
+
 -- where all paths have run out, what was found has answered
 pub found_answered : (s : Setting) (J : List Entry) (c : Contact) → 0 < s.paths → Legal s J → ((p : ℕ) → p < s.paths → RunOut s p J) → among (result_of s J) c ≡ true → among (answered J) c ≡ true
-unfolding result_of alive
+unfolding result_of
 found_answered s J c z l over h =
     let all = closest_within s.target s.k (without (took J) (failed J)) c h in
     let parts = and_parts (among (took J) c) (not (among (failed J) c)) (sym (among_without (took J) (failed J) c) ∙ all) in
-    let by = held_by_some c J parts.0 in
-    let here : among (alive by.0 J) c ≡ true = among_without (path by.0 J) (failed J) c ∙ and_from (among (path by.0 J) c) (not (among (failed J) c)) by.2 parts.1 in
+    let by = own_by_some s J c l parts.0 in
+    let here = own_alive by.0 J c by.1 (not-true (among (failed J) c) parts.1) in
     let sub : (x : Contact) → among (alive by.0 J) x ≡ true → among (without (took J) (failed J)) x ≡ true =
-    (λ x t. let q = and_parts (among (path by.0 J) x) (not (among (failed J) x)) (sym (among_without (path by.0 J) (failed J) x) ∙ t) in
-    among_without (took J) (failed J) x ∙ and_from (among (took J) x) (not (among (failed J) x)) (path_took by.0 J x q.0) q.1) in
-    each_from_all (λ x. among (answered J) x ≡ true) _ (over by.0 (path_below s J by.0 c z l by.2)).all_answered c
+    (λ x t. let says = alive_says by.0 J x t in
+    among_without (took J) (failed J) x ∙ and_from (among (took J) x) (not (among (failed J) x)) (path_took by.0 J x (own_on_path by.0 J x says.0).0) (ap not says.1)) in
+    each_from_all (λ x. among (answered J) x ≡ true) _ (over by.0 (path_below s J by.0 c z l (own_on_path by.0 J c by.1).0)).all_answered c
     (closest_of_fewer s.target s.k (alive by.0 J) (without (took J) (failed J)) c sub here h)
 
 -- none may be asked: each of the closest was asked, where fewer are open than may be
@@ -173,13 +181,15 @@ none_may_ask s p J few e c h =
 pub alive_asked_answered : (s : Setting) (p : ℕ) (J : List Entry) (c : Contact) → Legal s J → open_on p J ≡ [] → among (alive p J) c ≡ true → among (asked J) c ≡ true → among (answered J) c ≡ true
 unfolding open_on
 alive_asked_answered s p J c l none_open here h =
-    let on = alive_on_path p J c here in
-    let by = asked_by_some c J h in
-    let is : by.0 ≡ p = one_path s J l by.0 p c (asked_on_path s J l by.0 c by.2) on.0 in
-    let ask : among (asked_on p J) c ≡ true = subst (λ n. among (asked_on n J) c ≡ true) is by.2 in
+    let on = alive_says p J c here in
+    let ask = asks (among (asked_on p J) c) (among (theirs p J) c) (sym (asked_split p J c) ∙ h) (own_on_path p J c on.0).1 in
     let gone = sym (among_without (asked_on p J) (answered J ++ failed J) c) ∙ among_none (open_on p J) none_open c in
     ended (among (asked_on p J) c) (among (answered J ++ failed J) c) (among (answered J) c) (among (failed J) c) gone ask (among_more (answered J) (failed J) c) on.1
   where
+    asks : (a t : Bool) → (a || t) ≡ true → t ≡ false → a ≡ true
+    asks true t e f = refl
+    asks false t e f = sym f ∙ e
+
     ended : (a e n f : Bool) → (a && not e) ≡ false → a ≡ true → e ≡ (n || f) → f ≡ false → n ≡ true
     ended true true true f g h i j = refl
     ended true true false true g h i j = absurd cc

@@ -1,5 +1,5 @@
 -- What a journal shows with one more entry, filter by filter.
-use Rattle.std.proofs.Common.{◌≡◌, ℕ, ◌+◌, ◌<◌, List, [], ◌∷◌, ◌++◌, length, Bool, true, false, not, ◌||◌, ◌&&◌, cond, refl, sym, ap, ◌∙◌, arith, eqb}
+use Rattle.std.proofs.Common.{◌≡◌, ℕ, ◌+◌, ◌<◌, List, [], ◌∷◌, ◌++◌, length, Bool, true, false, not, ◌||◌, cond, refl, sym, ap, ◌∙◌, arith, eqb}
 use Rattle.std.specs.Prelude.{filter}
 use Rattle.std.specs.List.{IsDistinct}
 use Rattle.std.proofs.lemmas.List.{append-nil, length-append}
@@ -8,20 +8,20 @@ use Rattle.std.proofs.lemmas.Bool.{eq-eqb, eqb-false}
 use Rattle.kad_base.specs.declared.types.Contact.{Contact}
 use Rattle.kad_base.specs.declared.types.Report.{Report}
 use Rattle.kad_base.specs.Contacts.{same, among, without}
-use Rattle.kad_base.proofs.Contacts.{same_exact, among_more}
+use Rattle.kad_base.proofs.Contacts.{among_more}
 use Rattle.claim_book.specs.declared.types.Setting.{Setting}
 use Rattle.claim_book.specs.declared.types.Cause.{Cause}
 use Rattle.claim_book.specs.declared.types.Entry.{Entry}
 use Rattle.claim_book.specs.declared.types.Entry.TheVariants.{Ask, Heard, Lost}
-use Rattle.claim_book.specs.Journal.{on_path, path_of, ask_of, ask_on, answer_of, fail_of, took, path, asked, asked_on, answered, failed, open_on, alive}
+use Rattle.claim_book.specs.Journal.{on_path, ask_on, answer_of, fail_of, took, asked, asked_on, answered, failed, open_on}
 use Rattle.claim_book.specs.Legal.{Fits, Legal, is_of}
-use Rattle.claim_book.proofs.More.{path_more, asked_more, asked_on_more, answered_more, failed_more}
-use Rattle.claim_book.proofs.Among.{among_without, without_less}
+use Rattle.claim_book.proofs.More.{asked_on_more, answered_more, failed_more}
+use Rattle.claim_book.proofs.Among.{without_less, without_twice, without_absent}
 use Rattle.claim_book.proofs.Closest.{distinct_filter}
-use Rattle.claim_book.proofs.Claims.{may_ask_on_path, alive_on_path, open_says, path_took, asked_on_path, ended_asked, among_right, one_path}
+use Rattle.claim_book.proofs.Claims.{open_says, path_took, asked_on_path, ended_asked, among_right, one_asker}
 use Rattle.claim_book.proofs.Ends.{asked_by_some}
 use Rattle.claim_book.proofs.Seeding.{none_out}
-use Rattle.claim_book.proofs.Forever.{without_twice, without_absent, alive_stays, elsewhere, asked_on_distinct}
+use Rattle.claim_book.proofs.Forever.{elsewhere, asked_on_distinct}
 
 pub same_list : {A : Type 0} (xs ys : List A) → ys ≡ [] → xs ++ ys ≡ xs
 same_list xs ys e = ap (λ l. xs ++ l) e ∙ append-nil xs
@@ -103,79 +103,12 @@ pub open_stays : (s : Setting) (J : List Entry) (e : Entry) (p : ℕ) → Legal 
 open_stays s J e p l f h = open_unasked p J e (elsewhere p e h).none_asked ∙ rest e f h
   where
     away : (q : ℕ) (c : Contact) → among (open_on q J) c ≡ true → eqb q p ≡ false → among (open_on p J) c ≡ false
-    away q c there ne = no_true (among (open_on p J) c) (λ here. eqb-false q p ne (one_path s J l q p c (asked_on_path s J l q c (open_says q J c there).0) (asked_on_path s J l p c (open_says p J c here).0)))
+    away q c there ne = no_true (among (open_on p J) c) (λ here. eqb-false q p ne (one_asker s J l q p c (open_says q J c there).0 (open_says p J c here).0))
 
     rest : (e : Entry) → Fits s J e → is_of p e ≡ false → without (open_on p J) (answer_of e ++ fail_of e) ≡ open_on p J
     rest (Heard q c reports) f h = without_absent (open_on p J) c (away q c f.0 h)
     rest (Lost q c cause) f h = without_absent (open_on p J) c (away q c f h)
     rest other f h = none_out (open_on p J)
-
-pub alive_more : (p : ℕ) (J : List Entry) (e : Entry) → alive p (J ++ e ∷ []) ≡ without (without (path p J ++ path_of p e) (failed J)) (fail_of e)
-unfolding alive
-alive_more p J e =
-    ap (λ l. without l (failed (J ++ e ∷ []))) (path_more p J e) ∙ ap (λ l. without (path p J ++ path_of p e) l) (failed_more J e) ∙ without_twice (path p J ++ path_of p e) (failed J) (fail_of e)
-
--- where the path gets none
-alive_unchanged : (p : ℕ) (J : List Entry) (e : Entry) → path_of p e ≡ [] → alive p (J ++ e ∷ []) ≡ without (alive p J) (fail_of e)
-unfolding alive
-alive_unchanged p J e a = alive_more p J e ∙ ap (λ l. without (without l (failed J)) (fail_of e)) (same_list (path p J) (path_of p e) a)
-
-pub alive_kept : (p : ℕ) (J : List Entry) (e : Entry) → path_of p e ≡ [] → fail_of e ≡ [] → alive p (J ++ e ∷ []) ≡ alive p J
-alive_kept p J e a l = alive_unchanged p J e a ∙ ap (without (alive p J)) l ∙ none_out (alive p J)
-
-pub alive_lost : (p : ℕ) (J : List Entry) (c : Contact) (cause : Cause) → alive p (J ++ Lost p c cause ∷ []) ≡ without (alive p J) (c ∷ [])
-alive_lost p J c cause = alive_unchanged p J (Lost p c cause) refl
-
--- where the path gets a contact that is not lost
-pub alive_gains : (p : ℕ) (J : List Entry) (e : Entry) (c : Contact) → path_of p e ≡ c ∷ [] → fail_of e ≡ [] → among (failed J) c ≡ false → alive p (J ++ e ∷ []) ≡ alive p J ++ c ∷ []
-unfolding alive
-alive_gains p J e c gets l out =
-    let t = λ (x : Contact). not (among (failed J) x) in
-    alive_more p J e ∙ ap (without (without (path p J ++ path_of p e) (failed J))) l ∙ none_out (without (path p J ++ path_of p e) (failed J))
-    ∙ ap (λ x. without (path p J ++ x) (failed J)) gets ∙ filter-append t (path p J) (c ∷ []) ∙ ap (λ b. filter t (path p J) ++ cond (not b) (c ∷ []) []) out
-
--- those of the path that nobody asked
-abbrev pub fresh_on : ℕ → List Entry → List Contact
-fresh_on p J = without (alive p J) (asked J)
-
-fresh_more : (p : ℕ) (J : List Entry) (e : Entry) → fresh_on p (J ++ e ∷ []) ≡ without (without (alive p (J ++ e ∷ [])) (asked J)) (ask_of e)
-fresh_more p J e = ap (without (alive p (J ++ e ∷ []))) (asked_more J e) ∙ without_twice (alive p (J ++ e ∷ [])) (asked J) (ask_of e)
-
-fresh_unasked : (p : ℕ) (J : List Entry) (e : Entry) → ask_of e ≡ [] → fresh_on p (J ++ e ∷ []) ≡ without (alive p (J ++ e ∷ [])) (asked J)
-fresh_unasked p J e a = fresh_more p J e ∙ ap (without (without (alive p (J ++ e ∷ [])) (asked J))) a ∙ none_out (without (alive p (J ++ e ∷ [])) (asked J))
-
-pub fresh_kept : (p : ℕ) (J : List Entry) (e : Entry) → path_of p e ≡ [] → fail_of e ≡ [] → ask_of e ≡ [] → fresh_on p (J ++ e ∷ []) ≡ fresh_on p J
-fresh_kept p J e a l k = fresh_unasked p J e k ∙ ap (λ x. without x (asked J)) (alive_kept p J e a l)
-
-pub fresh_asked : (p : ℕ) (J : List Entry) (c : Contact) → fresh_on p (J ++ Ask p c ∷ []) ≡ without (fresh_on p J) (c ∷ [])
-fresh_asked p J c = fresh_more p J (Ask p c) ∙ ap (λ x. without (without x (asked J)) (c ∷ [])) (alive_kept p J (Ask p c) refl refl)
-
-pub fresh_gains : (p : ℕ) (J : List Entry) (e : Entry) (c : Contact) → path_of p e ≡ c ∷ [] → fail_of e ≡ [] → ask_of e ≡ [] → among (failed J) c ≡ false → among (asked J) c ≡ false → fresh_on p (J ++ e ∷ []) ≡ fresh_on p J ++ c ∷ []
-fresh_gains p J e c gets l k out new =
-    let t = λ (x : Contact). not (among (asked J) x) in
-    fresh_unasked p J e k ∙ ap (λ x. without x (asked J)) (alive_gains p J e c gets l out) ∙ filter-append t (alive p J) (c ∷ []) ∙ ap (λ b. filter t (alive p J) ++ cond (not b) (c ∷ []) []) new
-
--- one that is left out anyway
-without_anyway : (cs out : List Contact) (c : Contact) → among out c ≡ true → without (without cs (c ∷ [])) out ≡ without cs out
-without_anyway cs out c was =
-    sym (without_twice cs (c ∷ []) out) ∙ filter_agree (λ d. not (among (c ∷ [] ++ out) d)) (λ d. not (among out d)) (λ d. ap not (agrees d (same d c) refl)) cs
-  where
-    agrees : (d : Contact) (b : Bool) → same d c ≡ b → (same d c || among out d) ≡ among out d
-    agrees d true e = ap (λ b. b || among out d) e ∙ sym (ap (among out) (same_exact d c e) ∙ was)
-    agrees d false e = ap (λ b. b || among out d) e
-
-pub fresh_lost : (p : ℕ) (J : List Entry) (c : Contact) (cause : Cause) → among (asked J) c ≡ true → fresh_on p (J ++ Lost p c cause ∷ []) ≡ fresh_on p J
-fresh_lost p J c cause was = fresh_unasked p J (Lost p c cause) refl ∙ ap (λ x. without x (asked J)) (alive_lost p J c cause) ∙ without_anyway (alive p J) (asked J) c was
-
-pub fresh_stays : (s : Setting) (J : List Entry) (e : Entry) (p : ℕ) → Legal s J → Fits s J e → is_of p e ≡ false → fresh_on p (J ++ e ∷ []) ≡ fresh_on p J
-fresh_stays s J e p l f h = fresh_more p J e ∙ ap (λ x. without (without x (asked J)) (ask_of e)) (alive_stays s J e p l f h) ∙ rest e f h
-  where
-    away : (q : ℕ) (c : Contact) → among (path q J) c ≡ true → eqb q p ≡ false → among (fresh_on p J) c ≡ false
-    away q c there ne = among_without (alive p J) (asked J) c ∙ ap (λ b. b && not (among (asked J) c)) (no_true (among (alive p J) c) (λ here. eqb-false q p ne (one_path s J l q p c there (alive_on_path p J c here).0)))
-
-    rest : (e : Entry) → Fits s J e → is_of p e ≡ false → without (fresh_on p J) (ask_of e) ≡ fresh_on p J
-    rest (Ask q c) f h = without_absent (fresh_on p J) c (away q c (may_ask_on_path s q J c f) h)
-    rest other f h = none_out (fresh_on p J)
 
 -- ---- who is new
 

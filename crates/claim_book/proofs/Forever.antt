@@ -1,5 +1,5 @@
 -- A path that has run out stays so, whatever the other paths do.
-use Rattle.std.proofs.Common.{◌≡◌, ℕ, ◌<◌, ◌≤◌, List, [], ◌∷◌, ◌++◌, length, Bool, true, false, not, ◌||◌, ◌&&◌, cond, zero, suc, refl, sym, ap, subst, ◌∙◌, arith, eqb}
+use Rattle.std.proofs.Common.{◌≡◌, ℕ, ◌<◌, ◌≤◌, List, [], ◌∷◌, ◌++◌, length, Bool, true, false, not, ◌||◌, cond, zero, suc, refl, sym, ap, subst, ◌∙◌, arith, eqb}
 use Rattle.std.specs.Prelude.{filter, drop}
 use Rattle.std.specs.List.{All, IsDistinct, flat_map}
 use Rattle.std.proofs.lemmas.Cmp.{eq_by_cmp_equiv}
@@ -8,48 +8,27 @@ use Rattle.std.proofs.lemmas.Map.Made.{length-le_from_is_member}
 use Rattle.std.proofs.lemmas.Option.{get_or_from_slice_get}
 use Rattle.std.proofs.lemmas.List.{append-nil, append_assoc}
 use Rattle.std.proofs.lemmas.List.Elements.{All-weaker}
-use Rattle.std.proofs.lemmas.Bool.{or_parts, and_from, eqb-false}
+use Rattle.std.proofs.lemmas.Bool.{or_parts, and_from}
 use Rattle.kad_base.specs.Limits.{max_path_contacts}
 use Rattle.kad_base.specs.declared.types.Contact.{Contact}
 use Rattle.kad_base.specs.Contacts.{same, among, without}
-use Rattle.kad_base.proofs.Contacts.{same_back, among_more, contact_total}
+use Rattle.kad_base.proofs.Contacts.{among_more, contact_total}
 use Rattle.kad_distance.specs.KClosest.{k_closest}
 use Rattle.claim_book.specs.declared.types.Setting.{Setting}
 use Rattle.claim_book.specs.declared.types.Entry.{Entry}
 use Rattle.claim_book.specs.declared.types.Entry.TheVariants.{Seed, Ask, Heard, Lost, Note, Taken, Held, Turned, Rejected, Skipped}
-use Rattle.claim_book.specs.Journal.{seed_of, path_of, ask_on, fail_of, answer_of, things_of, things_in, settles_on, seeds, path, asked_on, askers, answered, failed, open_on, alive, things, settled, unsettled}
+use Rattle.claim_book.specs.Journal.{seed_of, path_of, ask_on, ask_elsewhere, fail_of, answer_of, things_of, things_in, settles_on, seeds, path, asked_on, theirs, own, askers, answered, failed, open_on, alive, things, settled, unsettled}
 use Rattle.claim_book.specs.Legal.{Fits, LegalAfter, Legal, is_of, IsSeed}
 use Rattle.claim_book.specs.RunOut.{RunOut}
 use Rattle.claim_book.specs.Calls.{asker}
-use Rattle.claim_book.proofs.More.{path_more, asked_on_more, answered_more, failed_more, legal_more, along}
-use Rattle.claim_book.proofs.Among.{among_without, among_none, none_among}
-use Rattle.claim_book.proofs.Claims.{may_ask_says, open_says, asked_on_path, asked_on_asked, one_path, among_left}
-use Rattle.claim_book.proofs.Ends.{all_from_each, asked_by_some, beyond, stays_out}
-use Rattle.claim_book.proofs.Closest.{closest_within}
+use Rattle.claim_book.proofs.More.{path_more, asked_on_more, theirs_more, answered_more, failed_more, legal_more, along}
+use Rattle.claim_book.proofs.Among.{among_without, among_none, none_among, without_twice, without_swap, without_absent}
+use Rattle.claim_book.proofs.Claims.{may_ask_says, open_says, asked_on_path, asked_on_asked, answered_asked, one_asker, among_left, no_true, own_on_path, alive_says, in_theirs}
+use Rattle.claim_book.proofs.Ends.{all_from_each, each_from_all, asked_by_some, beyond, stays_out}
+use Rattle.claim_book.proofs.Closest.{closest_within, closest_stays}
 use Rattle.claim_book.proofs.Unsettled.{unsettled_kept}
 use Rattle.claim_book.proofs.Bounds.{path_few}
 use Rattle.claim_book.proofs.Seeding.{none_out}
-
--- a list without those of two is without those of one, and then of the other
-pub without_twice : (cs xs ys : List Contact) → without cs (xs ++ ys) ≡ without (without cs xs) ys
-without_twice [] xs ys = refl
-without_twice (c ∷ cs) xs ys =
-    ap (λ b. cond (not b) (c ∷ without cs (xs ++ ys)) (without cs (xs ++ ys))) (among_more xs ys c) ∙ by (among xs c) (without_twice cs xs ys)
-  where
-    by : (b : Bool) → without cs (xs ++ ys) ≡ without (without cs xs) ys → cond (not (b || among ys c)) (c ∷ without cs (xs ++ ys)) (without cs (xs ++ ys)) ≡ without (cond (not b) (c ∷ without cs xs) (without cs xs)) ys
-    by true e = e
-    by false e = ap (λ l. cond (not (among ys c)) (c ∷ l) l) e
-
--- one that isn't there is left out in vain
-pub without_absent : (cs : List Contact) (c : Contact) → among cs c ≡ false → without cs (c ∷ []) ≡ cs
-without_absent [] c h = refl
-without_absent (x ∷ cs) c h =
-    let parts = or_parts (same c x) (among cs c) h in
-    ap (λ b. cond (not (b || false)) (x ∷ without cs (c ∷ [])) (without cs (c ∷ []))) (same_back x c ∙ parts.0) ∙ ap (λ l. x ∷ l) (without_absent cs c parts.1)
-
-no_true : (b : Bool) → (b ≡ true → ⊥) → b ≡ false
-no_true true n = absurd (n refl)
-no_true false n = refl
 
 same_list : {A : Type 0} (xs ys : List A) → ys ≡ [] → xs ++ ys ≡ xs
 same_list xs ys e = ap (λ l. xs ++ l) e ∙ append-nil xs
@@ -73,20 +52,47 @@ elsewhere p (Turned q c) h = record { no_path = refl; none_asked = refl; no_thin
 elsewhere p (Rejected q r) h = record { no_path = refl; none_asked = refl; no_things = refl; no_settling = h }
 elsewhere p (Skipped q r) h = record { no_path = refl; none_asked = refl; no_things = refl; no_settling = h }
 
--- no contact of path p is lost by another path's entry
-not_this : (s : Setting) (J : List Entry) (p q : ℕ) (c : Contact) → Legal s J → among (open_on q J) c ≡ true → (q ≡ p → ⊥) → among (path p J) c ≡ false
-not_this s J p q c l h ne = no_true (among (path p J) c) (λ on. ne (one_path s J l q p c (asked_on_path s J l q c (open_says q J c h).0) on))
+-- what is open on another path isn't a path's own
+not_this : (s : Setting) (J : List Entry) (p q : ℕ) (c : Contact) → eqb q p ≡ false → among (open_on q J) c ≡ true → among (own p J) c ≡ false
+not_this s J p q c ne h = no_true (among (own p J) c) (λ mine. let out = (own_on_path p J c mine).1 in let asks = in_theirs p q J c ne (open_says q J c h).0 in absurd cc)
 
--- what is alive on path p stays so
-pub alive_stays : (s : Setting) (J : List Entry) (e : Entry) (p : ℕ) → Legal s J → Fits s J e → is_of p e ≡ false → alive p (J ++ e ∷ []) ≡ alive p J
-unfolding alive
-alive_stays s J e p l f h =
-    ap (λ x. without x (failed (J ++ e ∷ []))) (path_more p J e ∙ same_list (path p J) (path_of p e) (elsewhere p e h).no_path)
-    ∙ ap (λ x. without (path p J) x) (failed_more J e) ∙ without_twice (path p J) (failed J) (fail_of e) ∙ rest e f h
+pub own_more : (p : ℕ) (J : List Entry) (e : Entry) → own p (J ++ e ∷ []) ≡ without (without (path p J ++ path_of p e) (theirs p J)) (ask_elsewhere p e)
+unfolding own
+own_more p J e =
+    ap (λ l. without l (theirs p (J ++ e ∷ []))) (path_more p J e) ∙ ap (λ l. without (path p J ++ path_of p e) l) (theirs_more p J e) ∙ without_twice (path p J ++ path_of p e) (theirs p J) (ask_elsewhere p e)
+
+-- an entry of another path takes from those that are alive on path p the contact that it asks
+pub alive_other : (s : Setting) (J : List Entry) (e : Entry) (p : ℕ) → Fits s J e → is_of p e ≡ false → alive p (J ++ e ∷ []) ≡ without (alive p J) (ask_elsewhere p e)
+unfolding alive own
+alive_other s J e p f h =
+    ap (λ x. without x (failed (J ++ e ∷ []))) (own_more p J e ∙ ap (λ l. without (without l (theirs p J)) (ask_elsewhere p e)) (same_list (path p J) (path_of p e) (elsewhere p e h).no_path))
+    ∙ ap (λ x. without (without (own p J) (ask_elsewhere p e)) x) (failed_more J e) ∙ without_twice (without (own p J) (ask_elsewhere p e)) (failed J) (fail_of e)
+    ∙ ap (λ l. without l (fail_of e)) (without_swap (own p J) (ask_elsewhere p e) (failed J))
+    ∙ rest e f h
   where
-    rest : (e : Entry) → Fits s J e → is_of p e ≡ false → without (without (path p J) (failed J)) (fail_of e) ≡ without (path p J) (failed J)
-    rest (Lost q c cause) f h = without_absent (without (path p J) (failed J)) c (among_without (path p J) (failed J) c ∙ ap (λ b. b && not (among (failed J) c)) (not_this s J p q c l f (eqb-false q p h)))
-    rest other f h = none_out (without (path p J) (failed J))
+    rest : (e : Entry) → Fits s J e → is_of p e ≡ false → without (without (alive p J) (ask_elsewhere p e)) (fail_of e) ≡ without (alive p J) (ask_elsewhere p e)
+    rest (Lost q c cause) f h =
+        ap (λ l. without l (c ∷ [])) (none_out (alive p J)) ∙ without_absent (alive p J) c (no_true (among (alive p J) c) (λ t. let mine = (alive_says p J c t).0 in let away = not_this s J p q c h f in absurd cc))
+        ∙ sym (none_out (alive p J))
+    rest other f h = none_out (without (alive p J) (ask_elsewhere p other))
+
+-- what is alive on path p stays so where another path's entry asks none
+pub alive_stays : (s : Setting) (J : List Entry) (e : Entry) (p : ℕ) → Fits s J e → is_of p e ≡ false → ask_elsewhere p e ≡ [] → alive p (J ++ e ∷ []) ≡ alive p J
+alive_stays s J e p f h a = alive_other s J e p f h ∙ ap (without (alive p J)) a ∙ none_out (alive p J)
+
+-- where another path asks, its contact isn't among the alive ones any more
+pub alive_lent : (s : Setting) (J : List Entry) (p q : ℕ) (c : Contact) → Fits s J (Ask q c) → eqb q p ≡ false → alive p (J ++ Ask q c ∷ []) ≡ without (alive p J) (c ∷ [])
+alive_lent s J p q c f ne = alive_other s J (Ask q c) p f ne ∙ ap (λ b. without (alive p J) (cond b [] (c ∷ []))) ne
+
+-- the k closest stay where all of them have answered, since who is asked has not
+still_closest : (s : Setting) (J : List Entry) (e : Entry) (p : ℕ) → Legal s J → Fits s J e → is_of p e ≡ false → All (λ c. among (answered J) c ≡ true) (k_closest s.target s.k (alive p J)) → k_closest s.target s.k (alive p (J ++ e ∷ [])) ≡ k_closest s.target s.k (alive p J)
+still_closest s J (Ask q c) p l f h over =
+    ap (k_closest s.target s.k) (alive_lent s J p q c f h)
+    ∙ closest_stays s.target s.k (alive p J) c (no_true (among (k_closest s.target s.k (alive p J)) c) (λ t.
+    let was = answered_asked s J l c (each_from_all (λ x. among (answered J) x ≡ true) (k_closest s.target s.k (alive p J)) over c t) in
+    let new = (may_ask_says s q J c f).new in
+    absurd cc))
+still_closest s J other p l f h over = ap (k_closest s.target s.k) (alive_stays s J other p f h refl)
 
 was_open : (p : ℕ) (J : List Entry) (c : Contact) → among (asked_on p J) c ≡ true → among (answered J) c ≡ false → among (failed J) c ≡ false → among (open_on p J) c ≡ true
 unfolding open_on
@@ -112,7 +118,7 @@ run_out_on s J e p l f h o =
     record {
       none_open = none_opens J e p off.none_asked o.none_open;
       settled = unsettled_kept s p J e l off.no_settling off.no_things ∙ o.settled;
-      all_answered = subst (λ cs. All (λ c. among (answered (J ++ e ∷ [])) c ≡ true) (k_closest s.target s.k cs)) (sym (alive_stays s J e p l f h))
+      all_answered = subst (λ cs. All (λ c. among (answered (J ++ e ∷ [])) c ≡ true) cs) (sym (still_closest s J e p l f h o.all_answered))
           (All-weaker (λ c. among (answered J) c ≡ true) (λ c. among (answered (J ++ e ∷ [])) c ≡ true) (λ c t. ap (λ x. among x c) (answered_more J e) ∙ among_left (answered J) (answer_of e) c t) (k_closest s.target s.k (alive p J)) o.all_answered);
     }
 
@@ -163,8 +169,8 @@ none_follows s J K p l none o = (silent_all s J K p l none o).none
 -- ---- a path past the last
 
 no_alive : (q : ℕ) (J : List Entry) → path q J ≡ [] → alive q J ≡ []
-unfolding alive
-no_alive q J e = ap (λ l. without l (failed J)) e
+unfolding alive own
+no_alive q J e = ap (λ l. without (without l (theirs q J)) (failed J)) e
 
 no_opens : (q : ℕ) (J : List Entry) → asked_on q J ≡ [] → open_on q J ≡ []
 unfolding open_on
@@ -219,4 +225,4 @@ pub open_by_asker : (s : Setting) (J : List Entry) (p : ℕ) (c : Contact) → L
 open_by_asker s J p c l h =
     let on = (open_says p J c h).0 in
     let by = asked_by_some c J (asked_on_asked p J c on) in
-    one_path s J l p by.0 c (asked_on_path s J l p c on) (asked_on_path s J l by.0 c by.2) ∙ sym (get_or_from_slice_get (askers c J) 0 by.0 0 by.1)
+    one_asker s J l p by.0 c on by.2 ∙ sym (get_or_from_slice_get (askers c J) 0 by.0 0 by.1)

@@ -17,8 +17,8 @@ use Rattle.claim_book.specs.Journal.{took_of, ask_of, answer_of, fail_of, things
 use Rattle.claim_book.specs.Legal.{Fits, Legal}
 use Rattle.claim_book.specs.Room.{thing_room, unsettled_room, room_for, frees, IsBook}
 use Rattle.claim_book.proofs.More.{took_more, asked_more, answered_more, failed_more, legal_more}
-use Rattle.claim_book.proofs.Among.{among_without, without_less}
-use Rattle.claim_book.proofs.Claims.{may_ask_says, may_ask_on_path, open_says, path_took, asked_on_asked, asked_on_path, took_distinct, asked_distinct}
+use Rattle.claim_book.proofs.Among.{among_without, without_less, without_fewer, without_twice}
+use Rattle.claim_book.proofs.Claims.{may_ask_says, may_ask_on_path, open_says, path_took, asked_on_asked, asked_on_path, asked_distinct}
 use Rattle.claim_book.proofs.Ends.{path_below, first_below}
 use Rattle.claim_book.proofs.Unsettled.{rooms_settle, rooms_heard, rooms_kept}
 
@@ -29,7 +29,7 @@ or_no false = refl
 among_last : (cs : List Contact) (c x : Contact) → among (cs ++ c ∷ []) x ≡ (among cs x || same x c)
 among_last cs c x = among_more cs (c ∷ []) x ∙ ap (λ b. among cs x || b) (or_no (same x c))
 
--- who was taken and not asked
+-- who was taken and not asked, once for each path that has it
 abbrev fresh : List Entry → ℕ
 fresh J = length (without (took J) (asked J))
 
@@ -45,15 +45,17 @@ fresh_kept J e f g =
     let a = asked_more J e ∙ same_lists (asked J) (ask_of e) g in
     ap (λ l. length (without l (asked (J ++ e ∷ [])))) t ∙ ap (λ l. length (without (took J) l)) a
 
-fresh_ask : (s : Setting) (J : List Entry) (q : ℕ) (c : Contact) → Legal s J → Fits s J (Ask q c) → fresh (J ++ Ask q c ∷ []) + 1 ≡ fresh J
-fresh_ask s J q c l f =
+fresh_ask : (s : Setting) (J : List Entry) (q : ℕ) (c : Contact) → Fits s J (Ask q c) → fresh (J ++ Ask q c ∷ []) + 1 ≤ fresh J
+fresh_ask s J q c f =
     let t = took_more J (Ask q c) ∙ same_lists (took J) [] refl in
     let a = asked_more J (Ask q c) in
     let new = (may_ask_says s q J c f).new in
     let in_took = path_took q J c (may_ask_on_path s q J c f) in
     let here : among (without (took J) (asked J)) c ≡ true = among_without (took J) (asked J) c ∙ and_from (among (took J) c) (not (among (asked J) c)) in_took (not_from_false (among (asked J) c) new) in
-    ap (λ l. length (without l (asked (J ++ Ask q c ∷ []))) + 1) t ∙ ap (λ l. length (without (took J) l) + 1) a
-    ∙ without_less (took J) (asked J) (asked J ++ c ∷ []) c (took_distinct s J l) here (λ x. among_last (asked J) c x)
+    let is : fresh (J ++ Ask q c ∷ []) ≡ length (without (without (took J) (asked J)) (c ∷ [])) =
+    ap (λ l. length (without l (asked (J ++ Ask q c ∷ [])))) t ∙ ap (λ l. length (without (took J) l)) a ∙ ap length (without_twice (took J) (asked J) (c ∷ [])) in
+    let less = without_fewer (without (took J) (asked J)) c here in
+    omega arith
 
 few_of_one : (p : Contact → Bool) (c : Contact) → length (filter p (c ∷ [])) ≤ 1
 few_of_one p c = elim (p c) as (λ b. length (cond b (c ∷ []) []) ≤ 1) [ true ↦ omega arith | false ↦ omega arith ]
@@ -152,7 +154,7 @@ off_this q p ne = ne_eqb q p (λ e. ne (sym e))
 pub room_falls : (s : Setting) (J : List Entry) (e : Entry) → 0 < s.paths → Legal s J → Fits s J e → IsOwed e → room_for s.paths (J ++ e ∷ []) + frees e ≤ room_for s.paths J
 unfolding room_for
 room_falls s J (Seed q c) z l f o = absurd o
-room_falls s J (Ask q c) z l f o = omega (arith, fresh_ask s J q c l f, opens_ask J q c, rooms_kept s J (Ask q c) s.paths l (λ p. refl) (λ p. refl))
+room_falls s J (Ask q c) z l f o = omega (arith, fresh_ask s J q c f, opens_ask J q c, rooms_kept s J (Ask q c) s.paths l (λ p. refl) (λ p. refl))
 room_falls s J (Heard q c reports) z l f o = absurd o
 room_falls s J (Lost q c cause) z l f o = omega (arith, fresh_kept J (Lost q c cause) refl refl, opens_lost s J q c (Lost q c cause) l f refl refl refl, rooms_kept s J (Lost q c cause) s.paths l (λ p. refl) (λ p. refl))
 room_falls s J (Note q c) z l f o = omega (arith, fresh_kept J (Note q c) refl refl, opens_kept J (Note q c) refl refl refl, settle_owed s J (Note q c) q (Responder c) z l f (eq-eqb q q refl) (off_this q) (λ p. refl) f)

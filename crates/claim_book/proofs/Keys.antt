@@ -1,5 +1,5 @@
--- Keys of the map are told apart as contacts are.
-use Rattle.std.proofs.Common.{◌≡◌, Bool, true, false, ◌&&◌, refl, sym, ap, subst, ◌∙◌, eqb}
+-- Keys of the map are told apart as contacts are, and spots by path and contact.
+use Rattle.std.proofs.Common.{◌≡◌, ℕ, Bool, true, false, ◌&&◌, refl, sym, ap, subst, ◌∙◌, eqb}
 use Rattle.std.specs.Cmp.{IsEquivalence}
 use Rattle.std.specs.Cmp.Lexicographic.{pointwise, bytes_decides}
 use Rattle.std.proofs.lemmas.Bool.{and_parts, and_from, eqb-true, eq-eqb}
@@ -9,7 +9,7 @@ use Rattle.kad_base.specs.declared.types.Contact.{Contact}
 use Rattle.kad_base.specs.contracts.types.IpPartialEq.TheImpl as ip_eq
 use Rattle.kad_base.specs.Contacts.{same}
 use Rattle.kad_base.proofs.Contacts.{same_exact, same_itself, same_back, same_contact}
-use Rattle.claim_book.specs.Claims.{key_eq}
+use Rattle.claim_book.specs.Claims.{key_eq, spot_eq, spot}
 
 ip_exact : (a b : Ip) → (ip_eq.ghosts).eq a b ≡ true → a ≡ b
 ip_exact (V4 a) (V4 b) e = ap V4 ((bytes_decides a b).0 e)
@@ -49,3 +49,6 @@ key_equiv = record {
   symm = λ a b. key_same a b ∙ same_back a b ∙ sym (key_same b a);
   congr = λ a b c e. ap (λ x. key_eq x c) (key_exact a b e);
 }
+
+pub spot_same : (p q : ℕ) (a b : Contact) → spot_eq (spot p a) (spot q b) ≡ (eqb p q && same b a)
+spot_same p q a b = ap (λ t. eqb p q && t) (key_same a b ∙ same_back a b)

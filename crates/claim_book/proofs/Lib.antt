@@ -3,6 +3,7 @@ pub mod Among
 pub mod Closest
 pub mod Claims
 pub mod Descent
+pub mod Alike
 pub mod Ends
 pub mod Unsettled
 pub mod Kept
@@ -16,6 +17,7 @@ pub mod Lists
 pub mod Keys
 pub mod Crowds
 pub mod Fronts
+pub mod Owned
 pub mod Filters
 pub mod Mapped
 pub mod Pathed
@@ -24,3 +26,4 @@ pub mod Reading
 pub mod Merging
 pub mod Dealt
 pub mod Hosted
+pub mod Holding

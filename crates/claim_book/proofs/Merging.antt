@@ -1,37 +1,27 @@
 -- The k closest of all paths are the k closest of those of each.
 use Rattle.std.proofs.Common.{◌≡◌, ℕ, zero, suc, ◌+◌, ◌<◌, List, [], ◌∷◌, ◌++◌, length, take, true, not, get_or, refl, sym, ap, subst, ◌∙◌, inl, inr, arith}
 use Rattle.std.specs.Prelude.{map}
-use Rattle.std.specs.List.{All, Contains, flat_map}
+use Rattle.std.specs.List.{All, flat_map}
 use Rattle.std.specs.List.Sorted.{IsStrictlySortedBy}
 use Rattle.std.proofs.lemmas.List.Elements.{All-nil, All-cons}
-use Rattle.std.proofs.lemmas.Bool.{or_cases, or_left, or_right, and_parts, and_from}
+use Rattle.std.proofs.lemmas.Bool.{or_cases, and_parts, and_from, not-true}
 use Rattle.kad_base.specs.declared.types.Contact.{Contact}
-use Rattle.kad_base.specs.Contacts.{same, among, without}
-use Rattle.kad_base.proofs.Contacts.{same_exact, same_itself, among_more}
+use Rattle.kad_base.specs.Contacts.{among, without}
+use Rattle.kad_base.proofs.Contacts.{among_more}
 use Rattle.kad_distance.specs.Order.{closeness}
 use Rattle.kad_distance.specs.KClosest.{k_closest}
-use Rattle.kad_distance.proofs.Members.{first_in, later_in, in_cases}
 use Rattle.kad_distance.proofs.Chosen.{closest_rises, closest_after, closest_joined, closest_same}
 use Rattle.claim_book.specs.declared.types.Setting.{Setting}
 use Rattle.claim_book.specs.declared.types.Entry.{Entry}
 use Rattle.claim_book.specs.declared.path.Path.{Path}
-use Rattle.claim_book.specs.Journal.{took, path, failed, alive}
+use Rattle.claim_book.specs.Journal.{took, failed, alive}
 use Rattle.claim_book.specs.Legal.{Legal}
 use Rattle.claim_book.specs.Result.{result_of}
 use Rattle.claim_book.specs.Index.{IsPaths}
-use Rattle.claim_book.proofs.Among.{among_without}
-use Rattle.claim_book.proofs.Claims.{path_took, among_left, among_right}
-use Rattle.claim_book.proofs.Ends.{held_by_some, path_below}
+use Rattle.claim_book.proofs.Among.{among_without, in_list, from_list}
+use Rattle.claim_book.proofs.Claims.{path_took, among_left, among_right, own_on_path, own_alive, alive_on_path}
+use Rattle.claim_book.proofs.Ends.{own_by_some, path_below}
 use Rattle.claim_book.proofs.Reading.{near_k}
-
--- a contact that is among a list is in it
-in_list : (cs : List Contact) (c : Contact) → among cs c ≡ true → Contains cs c
-in_list [] c h = absurd cc
-in_list (x ∷ cs) c h = elim (or_cases (same c x) (among cs c) h) [ inl e ↦ subst (λ (z : Contact). Contains (x ∷ cs) z) (sym (same_exact c x e)) (first_in x cs) | inr r ↦ later_in x cs c (in_list cs c r) ]
-
-from_list : (cs : List Contact) (c : Contact) → Contains cs c → among cs c ≡ true
-from_list [] c (n, lt, e) = absurd (omega arith)
-from_list (x ∷ cs) c h = elim (in_cases x cs c h) [ inl is ↦ or_left (same c x) (among cs c) (subst (λ z. same z x ≡ true) is (same_itself x)) | inr more ↦ or_right (same c x) (among cs c) (from_list cs c more) ]
 
 -- the contacts of n paths from the q-th on that are not lost
 abbrev alives : List Entry → ℕ → ℕ → List Contact
@@ -71,19 +61,17 @@ alives_in J q (suc n) (suc i) c lt h = among_right (alive q J) (alives J (q + 1)
 
 -- all that is alive on the lookup's paths is all that was taken and not lost
 alives_all : (s : Setting) (J : List Entry) (c : Contact) → 0 < s.paths → Legal s J → among (alives J 0 s.paths) c ≡ true → among (without (took J) (failed J)) c ≡ true
-unfolding alive
 alives_all s J c z l h =
     let at = alives_from J 0 s.paths c h in
-    let parts = and_parts (among (path at.0 J) c) (not (among (failed J) c)) (sym (among_without (path at.0 J) (failed J) c) ∙ at.1) in
-    among_without (took J) (failed J) c ∙ and_from (among (took J) c) (not (among (failed J) c)) (path_took at.0 J c parts.0) parts.1
+    let on = alive_on_path at.0 J c at.1 in
+    among_without (took J) (failed J) c ∙ and_from (among (took J) c) (not (among (failed J) c)) (path_took at.0 J c on.0) (ap not on.1)
 
 all_alives : (s : Setting) (J : List Entry) (c : Contact) → 0 < s.paths → Legal s J → among (without (took J) (failed J)) c ≡ true → among (alives J 0 s.paths) c ≡ true
-unfolding alive
 all_alives s J c z l h =
     let parts = and_parts (among (took J) c) (not (among (failed J) c)) (sym (among_without (took J) (failed J) c) ∙ h) in
-    let by = held_by_some c J parts.0 in
-    let lt = path_below s J by.0 c z l by.2 in
-    alives_in J 0 s.paths by.0 c lt (ap (λ m. among (without (path m J) (failed J)) c) (let z : 0 + by.0 ≡ by.0 = omega arith in z) ∙ among_without (path by.0 J) (failed J) c ∙ and_from (among (path by.0 J) c) (not (among (failed J) c)) by.2 parts.1)
+    let by = own_by_some s J c l parts.0 in
+    let lt = path_below s J by.0 c z l (own_on_path by.0 J c by.1).0 in
+    alives_in J 0 s.paths by.0 c lt (ap (λ m. among (alive m J) c) (let z : 0 + by.0 ≡ by.0 = omega arith in z) ∙ own_alive by.0 J c by.1 (not-true (among (failed J) c) parts.1))
 
 pub merged_is : (s : Setting) (J : List Entry) (xs : List Path) → 0 < s.paths → Legal s J → IsPaths s J xs → k_closest s.target s.k (flat_map (λ l. l) (map (λ x. take s.k x.near.items) xs)) ≡ result_of s J
 unfolding result_of

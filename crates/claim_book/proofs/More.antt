@@ -7,7 +7,7 @@ use Rattle.std.proofs.lemmas.List.Elements.{filter-append}
 use Rattle.kad_base.specs.declared.types.Contact.{Contact}
 use Rattle.claim_book.specs.declared.types.Setting.{Setting}
 use Rattle.claim_book.specs.declared.types.Entry.{Entry}
-use Rattle.claim_book.specs.Journal.{seed_of, took_of, path_of, ask_of, ask_on, asker_of, holder_of, answer_of, fail_of, turned_of, things_of, settles_on, seeds, took, path, asked, asked_on, askers, holders, answered, failed, turned, things, settled}
+use Rattle.claim_book.specs.Journal.{seed_of, took_of, path_of, ask_of, ask_on, ask_elsewhere, asker_of, holder_of, answer_of, fail_of, turned_of, things_of, settles_on, seeds, took, path, asked, asked_on, theirs, askers, holders, answered, failed, turned, things, settled}
 use Rattle.claim_book.specs.Legal.{Fits, LegalAfter, Legal}
 
 pub flat_more : {A B : Type 0} (f : A → List B) (J : List A) (e : A) → flat_map f (J ++ e ∷ []) ≡ flat_map f J ++ f e
@@ -32,6 +32,10 @@ asked_more J e = flat_more ask_of J e
 pub asked_on_more : (p : ℕ) (J : List Entry) (e : Entry) → asked_on p (J ++ e ∷ []) ≡ asked_on p J ++ ask_on p e
 unfolding asked_on
 asked_on_more p J e = flat_more (ask_on p) J e
+
+pub theirs_more : (p : ℕ) (J : List Entry) (e : Entry) → theirs p (J ++ e ∷ []) ≡ theirs p J ++ ask_elsewhere p e
+unfolding theirs
+theirs_more p J e = flat_more (ask_elsewhere p) J e
 
 pub askers_more : (c : Contact) (J : List Entry) (e : Entry) → askers c (J ++ e ∷ []) ≡ askers c J ++ asker_of c e
 unfolding askers

@@ -1,8 +1,11 @@
 -- What a book answers by its index.
-use Rattle.std.proofs.Common.{◌≡◌, ℕ, ◌<◌, ◌≤◌, List, [], length, take, Bool, true, false, not, ◌||◌, ◌&&◌, Option, Some, None, is_none, is_some, refl, sym, ap, ◌∙◌, arith}
+use Rattle.std.proofs.Common.{◌≡◌, ℕ, ◌<◌, ◌≤◌, List, [], length, take, Bool, true, false, not, ◌||◌, ◌&&◌, Option, Some, None, is_none, is_some, inr, refl, sym, ap, ◌∙◌, arith}
 use Rattle.std.specs.Prelude.{filter, find, slice_get, MatchOption}
 use Rattle.std.proofs.lemmas.List.{nil_from_length}
+use Rattle.std.proofs.lemmas.Bool.{false_from_ne_true}
 use Rattle.std.proofs.lemmas.Option.{get_or_from_slice_get}
+use Rattle.kad_base.specs.declared.types.ClaimRule.{ClaimRule}
+use Rattle.kad_base.specs.declared.types.ClaimRule.TheVariants.{Named, Asked}
 use Rattle.kad_base.specs.declared.types.Contact.{Contact}
 use Rattle.kad_base.specs.Contacts.{among}
 use Rattle.kad_base.proofs.Contacts.{among_more}
@@ -13,18 +16,18 @@ use Rattle.claim_book.specs.declared.types.Setting.{Setting}
 use Rattle.claim_book.specs.declared.types.Thing.{Thing}
 use Rattle.claim_book.specs.declared.types.Entry.{Entry}
 use Rattle.claim_book.specs.declared.path.Path.{Path}
-use Rattle.claim_book.specs.Journal.{path, asked, answered, failed, open_any, open_on, alive, unsettled, first_unsettled, first_unasked, may_ask, askers, holders}
-use Rattle.claim_book.specs.Legal.{Legal}
+use Rattle.claim_book.specs.Journal.{path, asked, answered, failed, open_any, open_on, alive, unsettled, first_unsettled, first_unasked, may_ask, askers}
+use Rattle.claim_book.specs.Legal.{Legal, IsHeldBy, IsFree}
 use Rattle.claim_book.specs.RunOut.{RunOut}
 use Rattle.claim_book.specs.Calls.{asker}
 use Rattle.claim_book.specs.declared.claim_map.Claims.{Claims}
-use Rattle.claim_book.specs.Claims.{shown, IsMap}
+use Rattle.claim_book.specs.Claims.{shown, shown_on, by_of, IsMap}
 use Rattle.claim_book.specs.Index.{IsPath}
 use Rattle.claim_book.proofs.Among.{among_none, none_found, found_among, found_passes}
 use Rattle.claim_book.proofs.Closest.{closest_within}
 use Rattle.claim_book.proofs.Claims.{may_ask_on_path, answered_asked, one_path, asked_on_path, path_took}
 use Rattle.claim_book.proofs.Ends.{all_from_each, each_from_all, alive_asked_answered, asked_by_some, held_by_some, beyond}
-use Rattle.claim_book.proofs.Deciding.{open_any_is, some_holder, may_ask_near, may_ask_full}
+use Rattle.claim_book.proofs.Deciding.{open_any_is, some_holder, no_holder, some_asker, may_ask_near, may_ask_full}
 use Rattle.claim_book.proofs.Lists.{once_filter}
 use Rattle.claim_book.proofs.Fronts.{none_first}
 
@@ -124,27 +127,40 @@ ended_not_open s J m c x h =
 pub unasked_not_open : (s : Setting) (J : List Entry) (m : Claims) (c : Contact) → IsMap s J m → (shown m c).asked ≡ false → among (open_any J) c ≡ false
 unasked_not_open s J m c x h = open_any_is J c ∙ ap (λ b. b && not (among (answered J) c || among (failed J) c)) (sym (ap (λ k. k.asked) (x.claims c)) ∙ h)
 
--- one that is asked and not ended is open, on the path that has it
+-- one that is asked and not ended is open, on the path whose it is
 pub is_open : (s : Setting) (J : List Entry) (m : Claims) (c : Contact) (o : Option ℕ) → Legal s J → IsMap s J m → (shown m c).ended ≡ false → (shown m c).asked ≡ true → o ≡ (shown m c).by → MatchOption o (among (open_any J) c ≡ false) (λ p. (among (open_any J) c ≡ true) × (p ≡ asker c J))
-is_open s J m c o l x e a b = by o (b ∙ ap (λ k. k.by) (x.claims c))
+is_open s J m c o l x e a b = by s.claim refl o (b ∙ ap (λ k. k.by) (x.claims c))
   where
     was : among (asked J) c ≡ true
     was = sym (ap (λ k. k.asked) (x.claims c)) ∙ a
 
-    still : (among (answered J) c || among (failed J) c) ≡ false
-    still = sym (ap (λ k. k.ended) (x.claims c) ∙ among_more (answered J) (failed J) c) ∙ e
+    still : among (open_any J) c ≡ true
+    still = open_any_is J c ∙ ap (λ b. b && not (among (answered J) c || among (failed J) c)) was ∙ ap not (sym (ap (λ k. k.ended) (x.claims c) ∙ among_more (answered J) (failed J) c) ∙ e)
 
-    by : (o : Option ℕ) → o ≡ slice_get (holders c J) 0 → MatchOption o (among (open_any J) c ≡ false) (λ p. (among (open_any J) c ≡ true) × (p ≡ asker c J))
-    by None f =
+    by : (rule : ClaimRule) → s.claim ≡ rule → (o : Option ℕ) → o ≡ by_of rule c J → MatchOption o (among (open_any J) c ≡ false) (λ p. (among (open_any J) c ≡ true) × (p ≡ asker c J))
+    by Named named None f =
         let ask = asked_by_some c J was in
         let held = held_by_some c J (path_took ask.0 J c (asked_on_path s J l ask.0 c ask.2)) in
         let clash = held.1 in
         absurd cc
-    by (Some p) f =
-        let ask = asked_by_some c J was in (
-          open_any_is J c ∙ ap (λ b. b && not (among (answered J) c || among (failed J) c)) was ∙ ap not still,
-          one_path s J l p ask.0 c (some_holder J c p f) (asked_on_path s J l ask.0 c ask.2) ∙ sym (get_or_from_slice_get (askers c J) 0 ask.0 0 ask.1),
-        )
+    by Named named (Some p) f = let ask = asked_by_some c J was in (still, one_path s J named l p ask.0 c (some_holder J c p f) (asked_on_path s J l ask.0 c ask.2) ∙ sym (get_or_from_slice_get (askers c J) 0 ask.0 0 ask.1))
+    by Asked by_ask None f = let ask = asked_by_some c J was in let clash = ask.1 in absurd cc
+    by Asked by_ask (Some p) f = (still, sym (get_or_from_slice_get (askers c J) 0 p 0 (sym f)))
+
+-- ---- who holds a contact against a path
+
+-- where path p doesn't have it, the path whose it is
+pub held_by : (s : Setting) (J : List Entry) (m : Claims) (p : ℕ) (c : Contact) (o : Option ℕ) → IsMap s J m → (s.claim ≡ Asked → shown_on m p c ≡ false) → o ≡ (shown m c).by → MatchOption o (IsFree s.claim J p c) (λ q. IsHeldBy s.claim J p c q)
+held_by s J m p c o x off b = by s.claim refl o (b ∙ ap (λ k. k.by) (x.claims c))
+  where
+    out : s.claim ≡ Asked → among (path p J) c ≡ false
+    out by_ask = sym (x.on_paths by_ask p c) ∙ off by_ask
+
+    by : (rule : ClaimRule) → s.claim ≡ rule → (o : Option ℕ) → o ≡ by_of rule c J → MatchOption o (IsFree rule J p c) (λ q. IsHeldBy rule J p c q)
+    by Named named None f = no_holder J c f
+    by Named named (Some q) f = some_holder J c q f
+    by Asked by_ask None f = (out by_ask, false_from_ne_true (among (asked J) c) (λ t. let ask = asked_by_some c J t in let clash = ask.1 in absurd cc))
+    by Asked by_ask (Some q) f = inr (out by_ask, some_asker J c q f)
 
 -- the first of the queue is the first that is unsettled
 pub front_is : (s : Setting) (J : List Entry) (p : ℕ) (x : Path) → IsPath s J p x → slice_get x.queue.items 0 ≡ first_unsettled p J

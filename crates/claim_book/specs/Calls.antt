@@ -15,8 +15,9 @@ use Rattle.claim_book.specs.declared.calls.BookCall.TheVariants.{Next, Heard, Lo
 use Rattle.claim_book.specs.declared.calls.BookReply.{BookReply}
 use Rattle.claim_book.specs.declared.calls.BookReply.TheVariants.{Ask, RunOut as RunOut_reply, Later, Kept, NotOpen, Found, NotYet, Alive, Report as Report_reply, Idle, NotFront, Taken, Held, Turned, Rejected, Skipped, NoMemory}
 use Rattle.claim_book.specs.CheckedState.{CheckedState}
-use Rattle.claim_book.specs.Journal.{took, path, asked, askers, failed, turned, open_any, unsettled, first_unsettled, may_ask}
+use Rattle.claim_book.specs.Journal.{path, asked, askers, failed, turned, open_any, unsettled, first_unsettled, may_ask}
 use Rattle.claim_book.specs.Crowded.{IsCrowded}
+use Rattle.claim_book.specs.Legal.{IsHeldBy, IsFree}
 use Rattle.claim_book.specs.RunOut.{RunOut}
 use Rattle.claim_book.specs.Result.{result_of}
 use Rattle.claim_book.specs.State.{BookState, added}
@@ -110,11 +111,11 @@ pub record IsSound (s : Setting) (J : List Entry) (p : ℕ) (checked : CheckedSt
 abbrev pub SettleStep : Setting → List Entry → ℕ → CheckedState → BookReply → Type 0
 SettleStep s J p checked Skipped = IsFront s J p checked × ¬ IsUsable s.own checked.report.contact
 SettleStep s J p checked Rejected = IsFront s J p checked × IsUsable s.own checked.report.contact × ¬ Passes s.policy checked.report
-SettleStep s J p checked (Held q) = IsSound s J p checked × (among (path q J) checked.report.contact ≡ true)
+SettleStep s J p checked (Held q) = IsSound s J p checked × IsHeldBy s.claim J p checked.report.contact q
 SettleStep s J p checked Turned =
-    IsSound s J p checked × (among (took J) checked.report.contact ≡ false) × ((length (path p J) ≡ max_path_contacts) ⊎ IsCrowded s J p checked.report.contact)
+    IsSound s J p checked × IsFree s.claim J p checked.report.contact × ((length (path p J) ≡ max_path_contacts) ⊎ IsCrowded s J p checked.report.contact)
 SettleStep s J p checked Taken =
-    IsSound s J p checked × (among (took J) checked.report.contact ≡ false) × (length (path p J) < max_path_contacts) × ¬ IsCrowded s J p checked.report.contact
+    IsSound s J p checked × IsFree s.claim J p checked.report.contact × (length (path p J) < max_path_contacts) × ¬ IsCrowded s J p checked.report.contact
 SettleStep s J p checked NotFront = ¬ IsFront s J p checked
 SettleStep s J p checked other = ⊥
 

@@ -1,5 +1,5 @@
 -- What a book keeps to answer without its journal: each part is a filter of the journal.
-use Rattle.std.specs.Prelude.{◌≡◌, ℕ, ◌+◌, ◌<◌, ◌≤◌, List, [], length, get_or, vec_capacity}
+use Rattle.std.specs.Prelude.{◌≡◌, ◌≢◌, ◌⊎◌, ℕ, ◌+◌, ◌<◌, ◌≤◌, List, [], ◌∷◌, length, true, false, get_or, vec_capacity}
 use Rattle.std.specs.List.Sorted.{IsStrictlySortedBy}
 use Rattle.kad_base.specs.declared.types.Contact.{Contact}
 use Rattle.kad_base.specs.Limits.{max_path_contacts}
@@ -14,10 +14,10 @@ use Rattle.claim_book.specs.declared.path.Path.{Path}
 use Rattle.claim_book.specs.Journal.{path, alive, asked, open_on, unsettled}
 use Rattle.claim_book.specs.Calls.{Counted}
 use Rattle.claim_book.specs.declared.claim_map.Claims.{Claims}
-use Rattle.claim_book.specs.Claims.{IsMap}
+use Rattle.claim_book.specs.Claims.{IsMap, shown_on}
 use Rattle.claim_book.specs.Room.{IsBook}
 
--- what is kept of path p: its contacts that are not lost, and those that nobody asked, in order; how many it has, and
+-- what is kept of path p: its contacts that no other path asked and that are not lost, and those that nobody asked, in order; how many it has, and
 -- how many are open; what is not settled
 pub record IsPath (s : Setting) (J : List Entry) (p : ℕ) (x : Path) : Type 0 where
   pub sorted : x.near.items ≡ each_once (closeness s.target) (alive p J)
@@ -74,3 +74,14 @@ pub record IsEmptyPath (x : Path) : Type 0 where
   pub no_queue : x.queue.items ≡ []
   pub near_room : max_path_contacts ≤ vec_capacity x.near
   pub fresh_room : max_path_contacts ≤ vec_capacity x.fresh
+
+-- y is x where path p is the asker or doesn't have the contact, and else x without it among its alive ones
+pub record Lent (m : Claims) (asker : ℕ) (c : Contact) (p : ℕ) (x y : Path) : Type 0 where
+  pub stays : (p ≡ asker) ⊎ (shown_on m p c ≡ false) → y ≡ x
+  pub near : p ≢ asker → shown_on m p c ≡ true → y.near.items ≡ without x.near.items (c ∷ [])
+  pub near_room : vec_capacity x.near ≤ vec_capacity y.near
+  pub fresh : p ≢ asker → shown_on m p c ≡ true → y.fresh.items ≡ without x.fresh.items (c ∷ [])
+  pub fresh_room : vec_capacity x.fresh ≤ vec_capacity y.fresh
+  pub count : y.count ≡ x.count
+  pub opens : y.opens ≡ x.opens
+  pub queue : y.queue ≡ x.queue

@@ -16,12 +16,16 @@ use Rattle.claim_book.specs.declared.types.Entry.TheVariants.{Seed, Ask, Heard, 
 abbrev pub on_path : {A : Type 0} → ℕ → ℕ → List A → List A
 on_path p q xs = if q == p then xs else []
 
+-- what is on another path than p
+abbrev pub elsewhere : {A : Type 0} → ℕ → ℕ → List A → List A
+elsewhere p q xs = if q == p then [] else xs
+
 -- of one entry: the seed that it is
 abbrev pub seed_of : Entry → List Entry
 seed_of (Seed q c) = Seed q c ∷ []
 seed_of other = []
 
--- what is taken, asked, heard, lost and turned away, by any path or on path p; and who asked or has a
+-- what is taken, asked, heard, lost and turned away, by any path, on path p or on another; and who asked or has a
 -- contact
 abbrev pub took_of : Entry → List Contact
 took_of (Seed q c) = c ∷ []
@@ -40,6 +44,10 @@ ask_of other = []
 abbrev pub ask_on : ℕ → Entry → List Contact
 ask_on p (Ask q c) = on_path p q (c ∷ [])
 ask_on p other = []
+
+abbrev pub ask_elsewhere : ℕ → Entry → List Contact
+ask_elsewhere p (Ask q c) = elsewhere p q (c ∷ [])
+ask_elsewhere p other = []
 
 abbrev pub asker_of : Contact → Entry → List ℕ
 asker_of c (Ask q d) = if same c d then q ∷ [] else []
@@ -129,9 +137,17 @@ open_any J = without (asked J) (answered J ++ failed J)
 unfoldable pub open_on : ℕ → List Entry → List Contact
 open_on p J = without (asked_on p J) (answered J ++ failed J)
 
--- of path p, and not lost
+-- the contacts that paths other than p asked
+unfoldable pub theirs : ℕ → List Entry → List Contact
+theirs p J = flat_map (ask_elsewhere p) J
+
+-- of path p, and asked by no other path
+unfoldable pub own : ℕ → List Entry → List Contact
+own p J = without (path p J) (theirs p J)
+
+-- of those, the ones that are not lost
 unfoldable pub alive : ℕ → List Entry → List Contact
-alive p J = without (path p J) (failed J)
+alive p J = without (own p J) (failed J)
 
 -- what the answers to path p gave to settle, in order
 unfoldable pub things : ℕ → List Entry → List Thing
@@ -153,7 +169,7 @@ first_unsettled p J = slice_get (unsettled p J) 0
 abbrev pub AllSettled : ℕ → List Entry → Type 0
 AllSettled n J = (p : ℕ) → p < n → unsettled p J ≡ []
 
--- the closest of the k closest alive contacts of path p that was never asked
+-- the closest of the k closest alive contacts of path p that no path asked
 abbrev pub first_unasked : Setting → ℕ → List Entry → Option Contact
 first_unasked s p J = find (λ c. not (among (asked J) c)) (k_closest s.target s.k (alive p J))
 

@@ -2,6 +2,8 @@
 use Rattle.std.specs.Prelude.{◌≡◌, ◌⊎◌, ℕ, ◌+◌, ◌%◌, ◌<◌, ◌≤◌, List, [], ◌∷◌, ◌++◌, length, Some, Bool, true, false, ◌==◌, ◌||◌, nat_lt, if◌then◌else◌}
 use Rattle.std.specs.List.Sorted.{IsStrictlySortedBy}
 use Rattle.kad_base.specs.Limits.{max_path_contacts, max_reports}
+use Rattle.kad_base.specs.declared.types.ClaimRule.{ClaimRule}
+use Rattle.kad_base.specs.declared.types.ClaimRule.TheVariants.{Named, Asked}
 use Rattle.kad_base.specs.declared.types.Contact.{Contact}
 use Rattle.kad_base.specs.declared.types.Report.{Report}
 use Rattle.kad_base.specs.Contacts.{among, IsUsable}
@@ -11,7 +13,7 @@ use Rattle.claim_book.specs.declared.types.Setting.{Setting}
 use Rattle.claim_book.specs.declared.types.Thing.TheVariants.{Responder, Told}
 use Rattle.claim_book.specs.declared.types.Entry.{Entry}
 use Rattle.claim_book.specs.declared.types.Entry.TheVariants.{Seed, Ask, Heard, Lost, Note, Taken, Held, Turned, Rejected, Skipped}
-use Rattle.claim_book.specs.Journal.{seeds, took, path, open_on, first_unsettled, may_ask}
+use Rattle.claim_book.specs.Journal.{seeds, took, path, asked, asked_on, open_on, first_unsettled, may_ask}
 use Rattle.kad_base.specs.Hosts.{host}
 use Rattle.claim_book.specs.Crowded.{crowd, IsCrowded}
 
@@ -25,6 +27,17 @@ pub record SeedFits (s : Setting) (J : List Entry) (q : ℕ) (c : Contact) : Typ
   pub usable : IsUsable s.own c
   pub in_order : IsStrictlySortedBy (closeness s.target) (took J ++ c ∷ [])
   pub free : ¬ IsCrowded s J q c
+
+-- Path q holds the contact against path p that is told of it. Where a name is a claim, the path that has it does. Where only an
+-- ask is one, path p does that has it already, and else the path that asked it.
+abbrev pub IsHeldBy : ClaimRule → List Entry → ℕ → Contact → ℕ → Type 0
+IsHeldBy Named J p c q = among (path q J) c ≡ true
+IsHeldBy Asked J p c q = (q ≡ p × (among (path p J) c ≡ true)) ⊎ ((among (path p J) c ≡ false) × (among (asked_on q J) c ≡ true))
+
+-- no path holds the contact against path p
+abbrev pub IsFree : ClaimRule → List Entry → ℕ → Contact → Type 0
+IsFree Named J p c = among (took J) c ≡ false
+IsFree Asked J p c = (among (path p J) c ≡ false) × (among (asked J) c ≡ false)
 
 -- the contact is that of the first unsettled thing of the path, a report that is usable and passes
 pub record Believed (s : Setting) (J : List Entry) (q : ℕ) (c : Contact) : Type 0 where
@@ -43,9 +56,9 @@ Fits s J (Lost q c cause) = among (open_on q J) c ≡ true
 Fits s J (Note q c) = first_unsettled q J ≡ Some (Responder c)
 Fits s J (Skipped q r) = (first_unsettled q J ≡ Some (Told r)) × ¬ IsUsable s.own r.contact
 Fits s J (Rejected q r) = (first_unsettled q J ≡ Some (Told r)) × IsUsable s.own r.contact × ¬ Passes s.policy r
-Fits s J (Held q c by) = Believed s J q c × (among (path by J) c ≡ true)
-Fits s J (Turned q c) = Believed s J q c × (among (took J) c ≡ false) × ((length (path q J) ≡ max_path_contacts) ⊎ IsCrowded s J q c)
-Fits s J (Taken q c) = Believed s J q c × (among (took J) c ≡ false) × (length (path q J) < max_path_contacts) × ¬ IsCrowded s J q c
+Fits s J (Held q c by) = Believed s J q c × IsHeldBy s.claim J q c by
+Fits s J (Turned q c) = Believed s J q c × IsFree s.claim J q c × ((length (path q J) ≡ max_path_contacts) ⊎ IsCrowded s J q c)
+Fits s J (Taken q c) = Believed s J q c × IsFree s.claim J q c × (length (path q J) < max_path_contacts) × ¬ IsCrowded s J q c
 
 -- each of the entries may follow those before it
 abbrev pub LegalAfter : Setting → List Entry → List Entry → Type 0

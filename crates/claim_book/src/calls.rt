@@ -46,9 +46,9 @@ pub enum BookReply {
     Idle,
     /// Something else is the first thing to settle, or the report was checked under another policy.
     NotFront,
-    /// The contact is now this path's.
+    /// The path has the contact now.
     Taken,
-    /// The contact was on this path already.
+    /// This path has the contact already, or asked it.
     Held { path: u8 },
     /// The path is full, or has as many contacts of this host as it may.
     Turned,

@@ -1,5 +1,5 @@
 //! How a book grows by one entry: each change writes the entry and what the index says of it.
-ghost use Rattle.std.specs.Prelude.{◌≡◌, ◌<◌, ◌≤◌, ◌+◌, ◌*◌, ◌++◌, ◌∷◌, [], Some, true, length, vec_len, vec_capacity, OnOk, OnErr, IsSome};
+ghost use Rattle.std.specs.Prelude.{◌≡◌, ◌<◌, ◌≤◌, ◌+◌, ◌*◌, ◌++◌, ◌∷◌, [], Some, true, length, get_or, ℕ, vec_len, vec_capacity, OnOk, OnErr, IsSome};
 ghost use Rattle.std.specs.List.{All};
 ghost use Rattle.std.specs.VecDeque.{deque_capacity};
 ghost use Rattle.kad_base.specs.Limits.{max_reports};
@@ -11,13 +11,14 @@ ghost use Rattle.claim_book.specs.Legal.{Fits};
 ghost use Rattle.claim_book.specs.Room.{frees};
 ghost use Rattle.claim_book.specs.State.{added};
 ghost use Rattle.claim_book.specs.Claims.{IsKnown, Keeps};
-ghost use Rattle.claim_book.specs.Index.{IsSettledOnly};
+ghost use Rattle.claim_book.specs.declared.path.Path.{Path};
+ghost use Rattle.claim_book.specs.Index.{IsSettledOnly, Lent};
 
-use crate::claim_map::{Claims, learn, mark_asked, mark_ended, mark_taken, place_of};
-use crate::path::{Path, ask_one, hear_one, lose_one, settle_one, take_one, widen};
+use crate::claim_map::{Claims, is_on, learn, mark_asked, mark_ended, mark_taken, place_of};
+use crate::path::{Path, ask_one, hear_one, lend_one, lose_one, settle_one, take_one, widen};
 use crate::state::Book;
 use crate::types::{Cause, Entry, Setting};
-use kad_base::{Contact, NoMemory, Report, Reports};
+use kad_base::{ClaimRule, Contact, NoMemory, Report, Reports};
 
 impl Book {
     /// The path asks the contact. Takes no memory.
@@ -31,9 +32,18 @@ impl Book {
             Entry::Ask { path, contact },
         );
         let place = place_of(&self.claims, &contact);
-        mark_asked(&mut self.claims, place, &contact);
+        mark_asked(&mut self.claims, self.setting.claim, path, place, &contact);
         ask_one(&mut self.paths[path as usize], &contact);
         self.counts.asked += 1;
+        if self.setting.claim == ClaimRule::Asked {
+            lend(
+                &mut self.paths,
+                &self.claims,
+                self.setting.paths,
+                path,
+                &contact,
+            );
+        }
     }
 
     /// The contact that the path asked answered. Takes the memory for all later calls on what it reported.
@@ -103,13 +113,7 @@ impl Book {
             &mut self.owed,
             Entry::Taken { path, contact },
         );
-        mark_taken(
-            &mut self.claims,
-            self.setting.per_address,
-            path,
-            place,
-            &contact,
-        );
+        mark_taken(&mut self.claims, &self.setting, path, place, &contact);
         take_one(&mut self.paths[path as usize], &self.setting, &contact);
     }
 
@@ -135,6 +139,21 @@ impl Book {
     {
         put(&mut self.journal, &mut self.owed, entry);
         settle_one(&mut self.paths[path as usize]);
+    }
+}
+
+/// The path asks the contact, so no other path that has it asks it or looks for it any more.
+fn lend(paths: &mut Vec<Path>, claims: &Claims, count: u8, asker: u8, contact: &Contact)
+    requires all { count ≡ length paths.old.items }
+    ensures len { length paths.new.items ≡ length paths.old.items }
+    ensures each { (p : ℕ) (d : Path) → p < length paths.new.items → Lent claims.now asker
+        contact.now p (get_or paths.old.items p d) (get_or paths.new.items p d) }
+{
+    for path in 0..count {
+        if path == asker || !is_on(claims, path, contact) {
+            continue;
+        }
+        lend_one(&mut paths[path as usize], contact);
     }
 }
 

@@ -1,20 +1,23 @@
-//! The map of claims: which path has a contact, and what came of it; and how many contacts of each host a path has.
-ghost use Rattle.std.specs.Prelude.{◌≡◌, ◌↔◌, ◌≤◌, ◌<◌, ◌+◌, IsTrue, IsSome, Some, [], if◌then◌else◌, OnOk, unwrap_or, slice_get, IfSome};
+//! The map of claims: whose a contact is, and what came of it; how many contacts of each host a path has; and, where several
+//! paths may have a contact, which have it.
+ghost use Rattle.std.specs.Prelude.{◌≡◌, ◌↔◌, ◌≤◌, ◌<◌, ◌+◌, IsTrue, IsSome, Some, [], true, if◌then◌else◌, OnOk, unwrap_or, slice_get, IfSome};
 ghost use Rattle.std.specs.List.{All};
 ghost use Rattle.indexmap.specs.IndexMap.{get};
+ghost use Rattle.kad_base.specs.declared.types.ClaimRule.TheVariants.{Asked};
 ghost use Rattle.kad_base.specs.declared.types.Contact.{Contact};
 ghost use Rattle.claim_book.specs.declared.types.Thing.TheVariants.{Told};
 ghost use Rattle.kad_base.specs.Hosts.{host};
-ghost use Rattle.claim_book.specs.Claims.{key_eq, seat_eq, seat, blank, shown, shown_crowd, asked_claim, ended_claim, taken_claim, HasRoom, IsKnown, Sets, Takes, Keeps};
+ghost use Rattle.claim_book.specs.Claims.{key_eq, seat_eq, seat, spot_eq, spot, blank, shown, shown_crowd, shown_on, asked_claim, ended_claim, taken_claim, HasRoom, IsKnown, Sets, Takes, Keeps};
 
 use crate::types::Setting;
 use indexmap::IndexMap;
-use kad_base::{Contact, Host, NoMemory, Report, host_of, is_usable};
+use kad_base::{ClaimRule, Contact, Host, NoMemory, Report, host_of, is_usable};
 use std::alloc::Global;
 use std::collections::VecDeque;
 use std::hash::RandomState;
 
-/// What came of a contact: which path has it, whether it was asked, and whether it answered or was lost.
+/// What came of a contact: whose it is, whether it was asked, and whether it answered or was lost. It is the path's that has
+/// it, where a lookup claims what is named; and the path's that asked it, where it claims what is asked.
 #[derive(Clone, Copy, Debug, PartialEq, Eq)]
 pub struct Claim {
     pub by: Option<u8>,
@@ -29,22 +32,33 @@ pub struct Seat {
     pub host: Host,
 }
 
+/// A path and a contact.
+#[derive(Clone, Copy, Debug, PartialEq, Eq, Hash)]
+pub struct Spot {
+    pub path: u8,
+    pub contact: Contact,
+}
+
 /// Each contact that a path has or a report named, and what came of it. Where the lookup has a limit of contacts of one
-/// host, also how many each path has of each host that it has or that was named to it.
+/// host, also how many each path has of each host that it has or that was named to it. Where the lookup claims what is asked,
+/// so that several paths may have a contact, also whether each path has each that was named to it.
 #[derive(Drop)]
 pub struct Claims {
     pub(crate) contacts: IndexMap<Contact, Claim, RandomState, Global>,
     pub(crate) crowds: IndexMap<Seat, u8, RandomState, Global>,
+    pub(crate) spots: IndexMap<Spot, bool, RandomState, Global>,
 }
 
 /// A map that has nothing. Takes no memory.
 pub(crate) fn no_claims(alloc: Global, hasher: RandomState) -> Claims
     ensures contacts { result.contacts.entries ≡ [] }
     ensures crowds { result.crowds.entries ≡ [] }
+    ensures spots { result.spots.entries ≡ [] }
 {
     Claims {
         contacts: IndexMap::with_hasher(alloc, hasher),
         crowds: IndexMap::with_hasher(alloc, hasher),
+        spots: IndexMap::with_hasher(alloc, hasher),
     }
 }
 
@@ -110,20 +124,31 @@ fn set_claim(claims: &mut Claims, place: usize, contact: Contact, claim: Claim)
     }
 }
 
-/// The contact was asked. Takes no memory.
-pub(crate) fn mark_asked(claims: &mut Claims, place: usize, contact: &Contact)
+/// The path asked the contact. Takes no memory.
+pub(crate) fn mark_asked(
+    claims: &mut Claims,
+    rule: ClaimRule,
+    path: u8,
+    place: usize,
+    contact: &Contact,
+)
     requires known { IsSome (get key_eq claims.old.contacts contact.now) }
     ensures each { Sets claims.old claims.new contact.now
-        (asked_claim (shown claims.old contact.now)) }
+        (asked_claim rule path (shown claims.old contact.now)) }
 {
     let claim = claim_at(claims, place, contact);
+    let by = match rule {
+        ClaimRule::Named => claim.by,
+        ClaimRule::Asked => Some(path),
+    };
     set_claim(
         claims,
         place,
         *contact,
         Claim {
+            by,
             asked: true,
-            ..claim
+            ended: claim.ended,
         },
     );
 }
@@ -147,22 +172,40 @@ pub(crate) fn mark_ended(claims: &mut Claims, place: usize, contact: &Contact)
 }
 
 /// The path took the contact. Takes no memory.
-pub(crate) fn mark_taken(claims: &mut Claims, limit: u8, path: u8, place: usize, contact: &Contact)
-    requires known { HasRoom limit claims.old path contact.now }
-    requires free { 0 < limit → shown_crowd claims.old path (host contact.now.addr) < limit }
-    ensures { Takes limit claims.old claims.new path contact.now }
+pub(crate) fn mark_taken(
+    claims: &mut Claims,
+    setting: &Setting,
+    path: u8,
+    place: usize,
+    contact: &Contact,
+)
+    requires known { HasRoom setting.now claims.old path contact.now }
+    requires free { 0 < setting.now.per_address → shown_crowd claims.old path
+        (host contact.now.addr) < setting.now.per_address }
+    ensures { Takes setting.now claims.old claims.new path contact.now }
 {
-    let claim = claim_at(claims, place, contact);
-    set_claim(
-        claims,
-        place,
-        *contact,
-        Claim {
-            by: Some(path),
-            ..claim
-        },
-    );
-    if limit == 0 {
+    match setting.claim {
+        ClaimRule::Named => {
+            let claim = claim_at(claims, place, contact);
+            set_claim(
+                claims,
+                place,
+                *contact,
+                Claim {
+                    by: Some(path),
+                    ..claim
+                },
+            );
+        }
+        ClaimRule::Asked => put_on(
+            claims,
+            Spot {
+                path,
+                contact: *contact,
+            },
+        ),
+    }
+    if setting.per_address == 0 {
         return;
     }
     count_one(
@@ -172,6 +215,34 @@ pub(crate) fn mark_taken(claims: &mut Claims, limit: u8, path: u8, place: usize,
             host: host_of(&contact.addr),
         },
     );
+}
+
+/// The path has the contact, of which the map has whether it does. Takes no memory.
+fn put_on(claims: &mut Claims, at: Spot)
+    requires known { IsSome (get spot_eq claims.old.spots at) }
+    ensures contacts { claims.new.contacts ≡ claims.old.contacts }
+    ensures crowds { claims.new.crowds ≡ claims.old.crowds }
+    ensures spots { (k : Spot) → get spot_eq claims.new.spots k ≡ (if spot_eq at k then Some true
+        else get spot_eq claims.old.spots k) }
+{
+    match claims.spots.insert(at, true) {
+        Ok(_) => {}
+        Err(_) => unreachable!(),
+    }
+}
+
+/// Whether the path has the contact, where several paths may.
+pub(crate) fn is_on(claims: &Claims, path: u8, contact: &Contact) -> bool
+    ensures { result ≡ shown_on claims.now path contact.now }
+{
+    let at = Spot {
+        path,
+        contact: *contact,
+    };
+    match claims.spots.get(&at) {
+        Some(has) => *has,
+        None => false,
+    }
 }
 
 /// How many contacts of a host the path has.
@@ -189,6 +260,7 @@ fn count_one(claims: &mut Claims, at: Seat)
     requires known { IsSome (get seat_eq claims.old.crowds at) }
     requires free { unwrap_or (get seat_eq claims.old.crowds at) 0 < 255 }
     ensures contacts { claims.new.contacts ≡ claims.old.contacts }
+    ensures spots { claims.new.spots ≡ claims.old.spots }
     ensures crowds { (k : Seat) → get seat_eq claims.new.crowds k ≡ (if seat_eq at k
         then Some (unwrap_or (get seat_eq claims.old.crowds at) 0 + 1)
         else get seat_eq claims.old.crowds k) }
@@ -244,18 +316,39 @@ fn learn_host(claims: &mut Claims, at: Seat) -> Result<(), NoMemory>
     Ok(())
 }
 
+/// Enters the contact as one that the path doesn't have, where the map doesn't say.
+fn learn_spot(claims: &mut Claims, at: Spot) -> Result<(), NoMemory>
+    ensures kept { Keeps claims.old claims.new }
+    ensures known { OnOk result (IsSome (get spot_eq claims.new.spots at)) }
+{
+    if claims.spots.contains_key(&at) {
+        return Ok(());
+    }
+    claims.spots.insert(at, false)?;
+    Ok(())
+}
+
 /// Makes the room by which the path can take the contact without memory, and answers the contact's place.
 pub(crate) fn make_place(
     claims: &mut Claims,
-    limit: u8,
+    setting: &Setting,
     path: u8,
     contact: &Contact,
 ) -> Result<usize, NoMemory>
     ensures kept { Keeps claims.old claims.new }
-    ensures known { OnOk result (HasRoom limit claims.new path contact.now) }
+    ensures known { OnOk result (HasRoom setting.now claims.new path contact.now) }
 {
     let place = learn_contact(claims, contact)?;
-    if limit == 0 {
+    if setting.claim == ClaimRule::Asked {
+        learn_spot(
+            claims,
+            Spot {
+                path,
+                contact: *contact,
+            },
+        )?;
+    }
+    if setting.per_address == 0 {
         return Ok(place);
     }
     learn_host(
@@ -281,7 +374,7 @@ fn learn_report(
     if !is_usable(&setting.own, &report.contact) {
         return Ok(0);
     }
-    make_place(claims, setting.per_address, path, &report.contact)
+    make_place(claims, setting, path, &report.contact)
 }
 
 /// Makes room for each usable contact that an answer reports to the path, and notes their places. Whatever it returns, the

@@ -2,30 +2,41 @@
 ghost use Rattle.std.specs.Prelude.{◌≡◌, ◌<◌, ◌≤◌, ◌*◌, ◌⊎◌, ◌++◌, ◌∷◌, [], List, ℕ, length, filter, true, IsSome};
 ghost use Rattle.std.specs.List.{IsDistinct};
 ghost use Rattle.kad_base.specs.Limits.{max_path_contacts};
+ghost use Rattle.kad_base.specs.declared.types.ClaimRule.TheVariants.{Named};
 ghost use Rattle.kad_base.specs.declared.types.Contact.{Contact};
 ghost use Rattle.kad_base.specs.Contacts.{same, among};
 ghost use Rattle.claim_book.specs.declared.types.Setting.{Setting};
 ghost use Rattle.claim_book.specs.declared.types.Entry.{Entry};
-ghost use Rattle.claim_book.specs.Journal.{seeds, took, path, asked, asked_on, answered, open_any, open_on, unsettled, may_ask};
+ghost use Rattle.claim_book.specs.Journal.{seeds, took, path, own, asked, asked_on, answered, open_any, open_on, unsettled, may_ask};
 ghost use Rattle.claim_book.specs.Crowded.{HasFewOfAHost};
 ghost use Rattle.claim_book.specs.Legal.{Legal, is_of, IsSeed, dealt, seeded};
 ghost use Rattle.claim_book.specs.RunOut.{RunOut};
-ghost use Rattle.claim_book.specs.Lineage.{HasLineage, IsContained, TakesUnlessHeld, DropsNone};
+ghost use Rattle.claim_book.specs.Lineage.{HasLineage, IsContained, TakesUnlessHeld, DropsNone, LosesNoneToNames, SettlesByAsks};
 ghost use Rattle.claim_book.specs.Result.{result_of};
 ghost use Rattle.claim_book.specs.Calls.{asker};
 
-/// No contact is taken twice, on whatever paths, and none is asked twice; each is asked by the path that has it.
+/// Where a name is a claim, no contact is taken twice, on whatever paths. None is asked twice, by either rule; each is asked by a
+/// path that has it.
 pub fn disjoint()
-    ensures took { (s : Setting) (J : List Entry) → Legal s J → IsDistinct same (took J) }
+    ensures took { (s : Setting) (J : List Entry) → s.claim ≡ Named → Legal s J
+        → IsDistinct same (took J) }
     ensures asked { (s : Setting) (J : List Entry) → Legal s J → IsDistinct same (asked J) }
     ensures on_path { (s : Setting) (J : List Entry) (p : ℕ) (c : Contact) → Legal s J
         → among (asked_on p J) c ≡ true → among (path p J) c ≡ true }
 {}
 
-/// A contact is on one path.
+/// Where a name is a claim, a contact is on one path, and what a path has is its own.
 pub fn one_path()
+    ensures only { (s : Setting) (J : List Entry) (p q : ℕ) (c : Contact) → s.claim ≡ Named
+        → Legal s J → among (path p J) c ≡ true → among (path q J) c ≡ true → p ≡ q }
+    ensures own { (s : Setting) (J : List Entry) (p : ℕ) → s.claim ≡ Named → Legal s J
+        → own p J ≡ path p J }
+{}
+
+/// A contact is asked by one path (S/Kademlia, section 4.4: a lookup uses each node once).
+pub fn one_asker()
     ensures { (s : Setting) (J : List Entry) (p q : ℕ) (c : Contact) → Legal s J
-        → among (path p J) c ≡ true → among (path q J) c ≡ true → p ≡ q }
+        → among (asked_on p J) c ≡ true → among (asked_on q J) c ≡ true → p ≡ q }
 {}
 
 /// A path has at most `MAX_PATH_CONTACTS` contacts, so it asks no more than that, and all paths no more than that each.
@@ -95,13 +106,20 @@ pub fn contained()
     ensures { (s : Setting) (J : List Entry) → Legal s J → IsContained s J }
 {}
 
-/// A report that may be believed is kept off a path only by that very contact on some path, where the path is full, or where
-/// it has as many contacts of this host as the lookup's limit: without a limit not by another contact with the same
-/// identifier or the same address. So none is dropped: once all is settled its contact is on a path, or the path is full or
-/// crowded by its host.
+/// A report that may be believed is kept off a path only where that very contact is held, where the path is full, or where it has
+/// as many contacts of this host as the lookup's limit: without a limit not by another contact with the same identifier or the
+/// same address. So none is dropped: once all is settled its contact is held, or the path is full or crowded by its host.
 pub fn taken_unless_held()
     ensures settled { (s : Setting) (J : List Entry) → Legal s J → TakesUnlessHeld s J }
     ensures none_dropped { (s : Setting) (J : List Entry) → Legal s J → DropsNone s J }
+{}
+
+/// Where only an ask is a claim, nothing is taken away by a name: whatever other paths were told, a contact that was named to a path
+/// is on its list, unless the path's own limits turn it away or a path asked it; and what a path is told is settled by its own
+/// entries and by who was asked alone.
+pub fn loses_none_to_names()
+    ensures on_its_list { (s : Setting) (J : List Entry) → Legal s J → LosesNoneToNames s J }
+    ensures by_asks { (s : Setting) → SettlesByAsks s }
 {}
 
 /// With a limit, no path has more contacts of one host, lost ones among them; so it asks no more of them.

@@ -19,7 +19,7 @@ use std::collections::VecDeque;
 /// One path of a lookup.
 #[derive(Drop)]
 pub struct Path {
-    /// The contacts of the path that are not lost, nearest first.
+    /// The contacts of the path that no other path asked and that are not lost, nearest first.
     pub(crate) near: Vec<Contact>,
     /// Those of them that nobody asked, nearest first.
     pub(crate) fresh: Vec<Contact>,
@@ -94,6 +94,20 @@ pub(crate) fn ask_one(path: &mut Path, contact: &Contact)
 {
     leave_out(&mut path.fresh, contact);
     path.opens += 1;
+}
+
+/// Another path asks the contact.
+pub(crate) fn lend_one(path: &mut Path, asked: &Contact)
+    ensures near { path.new.near.items ≡ without path.old.near.items (asked.now ∷ []) }
+    ensures near_room { vec_capacity path.old.near ≤ vec_capacity path.new.near }
+    ensures fresh { path.new.fresh.items ≡ without path.old.fresh.items (asked.now ∷ []) }
+    ensures fresh_room { vec_capacity path.old.fresh ≤ vec_capacity path.new.fresh }
+    ensures count { path.new.count ≡ path.old.count }
+    ensures opens { path.new.opens ≡ path.old.opens }
+    ensures queue { path.new.queue ≡ path.old.queue }
+{
+    leave_out(&mut path.near, asked);
+    leave_out(&mut path.fresh, asked);
 }
 
 /// An open query was answered, in room that is there.

@@ -3,21 +3,22 @@ ghost use Rattle.std.specs.Prelude.{◌≡◌, ◌↔◌, ◌<◌, ℕ, IsTrue, 
 ghost use Rattle.kad_base.specs.Limits.{max_path_contacts};
 ghost use Rattle.kad_base.specs.Contacts.{among};
 ghost use Rattle.claim_book.specs.declared.types.Thing.TheVariants.{Responder, Told};
-ghost use Rattle.claim_book.specs.Journal.{holders, path as path_of_journal, open_any, first_unsettled, first_unasked, may_ask};
+ghost use Rattle.claim_book.specs.Journal.{path as path_of_journal, open_any, first_unsettled, first_unasked, may_ask};
+ghost use Rattle.claim_book.specs.Legal.{IsHeldBy, IsFree};
 ghost use Rattle.claim_book.specs.RunOut.{RunOut};
 ghost use Rattle.claim_book.specs.Result.{result_of};
 ghost use Rattle.claim_book.specs.Crowded.{IsCrowded};
 ghost use Rattle.claim_book.specs.Calls.{asker, Counted, IsNotYet, IsSound, SettleStep};
 
 use crate::calls::BookReply;
-use crate::claim_map::{claim_at, is_crowded};
+use crate::claim_map::{claim_at, is_crowded, is_on};
 use crate::path::{first_fresh, first_place, first_thing};
 use crate::starting::nearest_lists;
 use crate::state::Book;
 use crate::types::{Counts, Thing};
 use crate::verdict::Checked;
 use kad_base::limits::MAX_PATH_CONTACTS;
-use kad_base::{Contact, Contacts, NoMemory, Report, is_usable};
+use kad_base::{ClaimRule, Contact, Contacts, NoMemory, Report, is_usable};
 use lookup_merge::merge;
 
 impl Book {
@@ -29,10 +30,15 @@ impl Book {
         }
     }
 
-    /// Which path has the contact.
-    pub(crate) fn holder(&self, place: usize, contact: &Contact) -> Option<u8>
-        ensures { result ≡ slice_get (holders contact.now self.now.journal) 0 }
+    /// Which path holds the contact against the path that is told of it, if any does.
+    fn holder(&self, path: u8, place: usize, contact: &Contact) -> Option<u8>
+        ensures { MatchOption result
+            (IsFree self.now.setting.claim self.now.journal path contact.now)
+            (λ q. IsHeldBy self.now.setting.claim self.now.journal path contact.now q) }
     {
+        if self.setting.claim == ClaimRule::Asked && is_on(&self.claims, path, contact) {
+            return Some(path);
+        }
         claim_at(&self.claims, place, contact).by
     }
 
@@ -205,7 +211,7 @@ impl Book {
         ensures { SettleStep self.now.setting self.now.journal path checked.now result }
     {
         let report = checked.report();
-        match self.holder(self.first_place(path), &report.contact) {
+        match self.holder(path, self.first_place(path), &report.contact) {
             Some(by) => BookReply::Held { path: by },
             None => {
                 if self.is_full(path) {

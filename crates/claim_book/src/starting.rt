@@ -60,8 +60,8 @@ pub(crate) fn seed(
         if is_crowded(claims, setting.per_address, path, contact) {
             continue;
         }
-        let place = make_place(claims, setting.per_address, path, contact)?;
-        mark_taken(claims, setting.per_address, path, place, contact);
+        let place = make_place(claims, setting, path, contact)?;
+        mark_taken(claims, setting, path, place, contact);
         add_one(&mut paths[path as usize], setting, contact);
         put_seed(
             journal,

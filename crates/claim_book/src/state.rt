@@ -52,7 +52,8 @@ impl Book {
 
     /// A book of a lookup that starts with these contacts, the closest that the routing table has. It takes the memory
     /// for all later calls on them. The seeds are dealt to the paths in turn (S/Kademlia, section 4.4), so there has to
-    /// be a path; of those of one host a path keeps the first `per_address`, and the others are no path's. Strangers choose the contacts, so the hasher is handed in.
+    /// be a path; of those of one host a path keeps the first `per_address`, and the others are no path's. Strangers choose
+    /// the contacts, so the hasher is handed in.
     pub fn new(
         alloc: Global,
         setting: Setting,

@@ -1,10 +1,11 @@
 //! What a lookup is set to, and what its journal is made of.
-use kad_base::{Contact, Id, List, Policy, Report, Reports};
+use kad_base::{ClaimRule, Contact, Id, List, Policy, Report, Reports};
 
 /// What a lookup is set to. `own` is the node that asks; each of `paths` disjoint paths (S/Kademlia, section 4.4) has at
 /// most `alpha` queries open and ends when its `k` closest contacts have answered (Kademlia, section 2.3). `policy`
 /// says which reports may be believed. A path has at most `per_address` contacts of one host (`Host`), lost ones among
-/// them; 0 is no limit.
+/// them; 0 is no limit. `claim` says from when on a contact is one path's alone, since a lookup uses each node once
+/// (S/Kademlia, section 4.4): once the path has it on its shortlist, or once the path queries it.
 #[derive(Clone, Copy, Debug, PartialEq, Eq)]
 pub struct Setting {
     pub own: Id,
@@ -14,6 +15,7 @@ pub struct Setting {
     pub alpha: u8,
     pub policy: Policy,
     pub per_address: u8,
+    pub claim: ClaimRule,
 }
 
 /// Why a contact that was asked is lost: the query was not sent, no answer came in time, the answer was another
@@ -65,12 +67,12 @@ pub enum Entry {
         path: u8,
         contact: Contact,
     },
-    /// The reported contact is now this path's.
+    /// The path has the reported contact now.
     Taken {
         path: u8,
         contact: Contact,
     },
-    /// The reported contact was on the path `by` already.
+    /// The path `by` has the reported contact already, or asked it.
     Held {
         path: u8,
         contact: Contact,

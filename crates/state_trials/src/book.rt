@@ -2,15 +2,17 @@
 ghost use Rattle.std.specs.Prelude.{◌≢◌, ◌<◌, ℕ, IfOk};
 ghost use Rattle.claim_book.specs.Calls.{BookMay};
 
+mod claims;
 mod compare;
 mod hosts;
 mod large;
 mod merging;
 mod plain_book;
 mod queries;
+mod shortlists;
 
 use claim_book::*;
-use kad_base::{Check, Contact, Id, List, NoMemory, Policy, Report, Serial, is_usable};
+use kad_base::{Check, ClaimRule, Contact, Id, List, NoMemory, Policy, Report, Serial, is_usable};
 use kad_distance::closer;
 use std::alloc::Global;
 use std::hash::RandomState;
@@ -41,14 +43,16 @@ fn report(n: u8) -> Report {
     }
 }
 
-/// The answer of the n-th contact, which names one other, or none.
-fn answer(alloc: Global, n: u8, named: Option<u8>) -> Result<BookCall, NoMemory>
+/// The answer of the n-th contact, which names these others: four, or fewer.
+fn answer(alloc: Global, n: u8, named: &[u8]) -> Result<BookCall, NoMemory>
     ensures { IfOk result (λ call. BookMay 0 call) }
 {
-    let mut reports = List::new(alloc);
-    if let Some(other) = named {
-        reports.push(report(other))?;
+    let mut told = [report(0); 4];
+    for (slot, other) in told.iter_mut().zip(named) {
+        *slot = report(*other);
     }
+    let count = named.len().min(4);
+    let reports = List::from_slice(alloc, &told[..count])?;
     Ok(BookCall::Heard {
         contact: contact(n),
         reports,
@@ -60,8 +64,8 @@ fn answer(alloc: Global, n: u8, named: Option<u8>) -> Result<BookCall, NoMemory>
 enum Step {
     /// What to ask on a path.
     Next(u8),
-    /// A contact answers, and names one other, or none.
-    Heard(u8, Option<u8>),
+    /// A contact answers, and names these others.
+    Heard(u8, &'static [u8]),
     /// A contact lets its time pass.
     TimedOut(u8),
     Finish,
@@ -240,6 +244,7 @@ fn seeded(rt: &impl Abort, alloc: Global, hasher: RandomState, paths: u8) -> Res
         alpha: 1,
         policy: Policy::Plain,
         per_address: 0,
+        claim: ClaimRule::Named,
     };
     let first = contact(1);
     let second = contact(2);
@@ -272,9 +277,9 @@ const OPEN: &[(Step, Told)] = &[
     (Step::Next(0), Told::Later),
     (Step::Next(5), Told::RunOut),
     (Step::Finish, Told::NotYet(0)),
-    (Step::Heard(3, None), Told::NotOpen),
-    (Step::Heard(1, Some(3)), Told::Kept),
-    (Step::Heard(1, Some(3)), Told::NotOpen),
+    (Step::Heard(3, &[]), Told::NotOpen),
+    (Step::Heard(1, &[3]), Told::Kept),
+    (Step::Heard(1, &[3]), Told::NotOpen),
 ];
 
 #[test]
@@ -284,7 +289,7 @@ fn a_query_is_open_until_it_is_heard(rt: HostRuntime) -> Result<(), Fail> {
 
 const IN_ORDER: &[(Step, Told)] = &[
     (Step::Next(0), Told::Ask(1)),
-    (Step::Heard(1, Some(3)), Told::Kept),
+    (Step::Heard(1, &[3]), Told::Kept),
     (Step::Pull(0), Told::Alive(1)),
     (Step::Settle(0, 3), Told::NotFront),
     (Step::Note(0, 1), Told::Kept),
@@ -302,13 +307,13 @@ fn an_answer_is_settled_in_order(rt: HostRuntime) -> Result<(), Fail> {
 
 const ANSWERED: &[(Step, Told)] = &[
     (Step::Next(0), Told::Ask(1)),
-    (Step::Heard(1, Some(3)), Told::Kept),
+    (Step::Heard(1, &[3]), Told::Kept),
     (Step::Note(0, 1), Told::Kept),
     (Step::Settle(0, 3), Told::Taken),
     (Step::Next(0), Told::Ask(2)),
     (Step::TimedOut(2), Told::Kept),
     (Step::Next(0), Told::Ask(3)),
-    (Step::Heard(3, Some(1)), Told::Kept),
+    (Step::Heard(3, &[1]), Told::Kept),
     (Step::Note(0, 3), Told::Kept),
     (Step::Settle(0, 1), Told::Held(0)),
     (Step::Next(0), Told::RunOut),
@@ -334,9 +339,9 @@ const OWN_SEEDS: &[(Step, Told)] = &[
     (Step::Next(1), Told::Ask(2)),
     (Step::Next(5), Told::RunOut),
     (Step::Finish, Told::NotYet(0)),
-    (Step::Heard(3, None), Told::NotOpen),
-    (Step::Heard(1, Some(3)), Told::Kept),
-    (Step::Heard(1, Some(3)), Told::NotOpen),
+    (Step::Heard(3, &[]), Told::NotOpen),
+    (Step::Heard(1, &[3]), Told::Kept),
+    (Step::Heard(1, &[3]), Told::NotOpen),
 ];
 
 #[test]
@@ -346,7 +351,7 @@ fn each_path_asks_its_own_seed(rt: HostRuntime) -> Result<(), Fail> {
 
 const OWN_ANSWERS: &[(Step, Told)] = &[
     (Step::Next(0), Told::Ask(1)),
-    (Step::Heard(1, Some(3)), Told::Kept),
+    (Step::Heard(1, &[3]), Told::Kept),
     (Step::Pull(1), Told::Idle),
     (Step::Pull(0), Told::Alive(1)),
     (Step::Settle(0, 3), Told::NotFront),
@@ -362,7 +367,7 @@ fn a_path_settles_what_its_own_query_gave(rt: HostRuntime) -> Result<(), Fail> {
 
 const TOOK: &[(Step, Told)] = &[
     (Step::Next(0), Told::Ask(1)),
-    (Step::Heard(1, Some(3)), Told::Kept),
+    (Step::Heard(1, &[3]), Told::Kept),
     (Step::Note(0, 1), Told::Kept),
     (Step::Settle(0, 3), Told::Taken),
     (Step::Pull(0), Told::Idle),
@@ -377,11 +382,11 @@ fn a_path_asks_what_it_took(rt: HostRuntime) -> Result<(), Fail> {
 
 const ONE_PATH: &[(Step, Told)] = &[
     (Step::Next(0), Told::Ask(1)),
-    (Step::Heard(1, Some(3)), Told::Kept),
+    (Step::Heard(1, &[3]), Told::Kept),
     (Step::Note(0, 1), Told::Kept),
     (Step::Settle(0, 3), Told::Taken),
     (Step::Next(1), Told::Ask(2)),
-    (Step::Heard(2, Some(3)), Told::Kept),
+    (Step::Heard(2, &[3]), Told::Kept),
     (Step::Note(1, 2), Told::Kept),
     (Step::Settle(1, 3), Told::Held(0)),
 ];
@@ -394,7 +399,7 @@ fn a_contact_is_on_one_path(rt: HostRuntime) -> Result<(), Fail> {
 const LAST_PATH: &[(Step, Told)] = &[
     (Step::Next(0), Told::Ask(1)),
     (Step::Next(1), Told::Ask(2)),
-    (Step::Heard(1, None), Told::Kept),
+    (Step::Heard(1, &[]), Told::Kept),
     (Step::Note(0, 1), Told::Kept),
     (Step::Finish, Told::NotYet(1)),
     (Step::TimedOut(2), Told::Kept),

@@ -10,12 +10,14 @@ use super::plain_book::{PlainBook, front, open_path};
 use claim_book::{Book, BookCall, BookReply, Cause, Checked, Entry, Setting, Thing};
 use id_puzzles::{Sha1Check, mint};
 use kad_base::{
-    Addr, Contact, Contacts, Id, Ip, List, NoMemory, Policy, Report, Reports, Serial, is_usable,
+    Addr, ClaimRule, Contact, Contacts, Id, Ip, List, NoMemory, Policy, Report, Reports, Serial,
+    is_usable,
 };
 use kad_distance::k_least;
 use std::alloc::Global;
 use std::hash::RandomState;
 use std::process::Abort;
+use std::random::RandomSource;
 use std::test::Fail;
 
 /// A row of numbers that only its start determines (Knuth's linear congruence).
@@ -340,7 +342,7 @@ fn call_one(
     }
 }
 
-/// Which replies came.
+/// Which replies came, and whether two paths had one contact.
 #[derive(Clone, Copy, Debug, PartialEq, Eq)]
 struct Came {
     taken: bool,
@@ -350,6 +352,7 @@ struct Came {
     skipped: bool,
     not_front: bool,
     found: bool,
+    shared: bool,
 }
 
 fn mark(came: &mut Came, reply: &BookReply) {
@@ -420,11 +423,15 @@ fn compare(
         came,
     )?;
     assert!(rt; book.into_journal().as_slice() == plain.journal.as_slice());
+    assert!(rt; plain.lists.ask_once());
+    if plain.lists.share_some() {
+        came.shared = true;
+    }
     Ok(())
 }
 
 /// 8 paths, of 2 to 4 queries at once, under both policies; the last has one path.
-fn setting(n: u8) -> Setting
+fn setting(n: u8, claim: ClaimRule) -> Setting
     requires { n < 6 }
     ensures { 0 < result.paths }
 {
@@ -440,10 +447,11 @@ fn setting(n: u8) -> Setting
             Policy::Puzzled { c1: 0, c2: 0 }
         },
         per_address: [0, 0, 1, 2, 3, 4][n as usize],
+        claim,
     }
 }
 
-/// No replies, and each of them.
+/// No replies, and each of them where a contact is on one path.
 const NONE: Came = Came {
     taken: false,
     held: false,
@@ -452,6 +460,7 @@ const NONE: Came = Came {
     skipped: false,
     not_front: false,
     found: false,
+    shared: false,
 };
 
 const EACH: Came = Came {
@@ -462,16 +471,42 @@ const EACH: Came = Came {
     skipped: true,
     not_front: true,
     found: true,
+    shared: false,
 };
 
-#[test]
-fn answers_as_the_filters_of_its_journal(rt: HostRuntime) -> Result<(), Fail> {
+/// Six lookups by the rule, drawn from the same start.
+fn compare_six<R: Abort + AllocGlobal + RandomSource>(
+    rt: &R,
+    claim: ClaimRule,
+) -> Result<Came, Fail> {
     let mut came = NONE;
     let mut dice = Dice { state: 1 };
     for n in 0..6u8 {
-        let hasher = RandomState::new(&rt)?;
-        compare(&rt, rt.alloc(), hasher, setting(n), &mut dice, &mut came)?;
+        let hasher = RandomState::new(rt)?;
+        compare(
+            rt,
+            rt.alloc(),
+            hasher,
+            setting(n, claim),
+            &mut dice,
+            &mut came,
+        )?;
     }
-    assert_eq!(rt; came, EACH);
+    Ok(came)
+}
+
+#[test]
+fn answers_as_the_filters_of_its_journal(rt: HostRuntime) -> Result<(), Fail> {
+    assert_eq!(rt; compare_six(&rt, ClaimRule::Named)?, EACH);
+    Ok(())
+}
+
+#[test]
+fn answers_as_the_rows_of_lists_and_askers(rt: HostRuntime) -> Result<(), Fail> {
+    let wanted = Came {
+        shared: true,
+        ..EACH
+    };
+    assert_eq!(rt; compare_six(&rt, ClaimRule::Asked)?, wanted);
     Ok(())
 }

@@ -8,7 +8,8 @@ use super::{Told, first_false, told_of, worker};
 use claim_book::{Book, BookCall, BookReply, Cause, Checked, Entry, Journal, Setting};
 use id_puzzles::Sha1Check;
 use kad_base::{
-    Addr, Contact, Contacts, Host, Id, Ip, List, NoMemory, Policy, Report, Serial, host_of,
+    Addr, ClaimRule, Contact, Contacts, Host, Id, Ip, List, NoMemory, Policy, Report, Serial,
+    host_of,
 };
 use std::alloc::Global;
 use std::hash::RandomState;
@@ -61,9 +62,10 @@ fn all_of(alloc: Global, named: &[Whom]) -> Result<Contacts, NoMemory> {
     Ok(contacts)
 }
 
-/// A book of these seeds on so many paths, each of which takes so many contacts of one host.
+/// A book of these seeds on so many paths, each of which takes so many contacts of one host, by the rule of claims.
 fn begun<R: Abort + AllocGlobal + RandomSource>(
     rt: &R,
+    claim: ClaimRule,
     paths: u8,
     per_address: u8,
     named: &[Whom],
@@ -78,6 +80,7 @@ fn begun<R: Abort + AllocGlobal + RandomSource>(
         alpha: 1,
         policy: Policy::Plain,
         per_address,
+        claim,
     };
     let contacts = all_of(rt.alloc(), named)?;
     let seeds = seeds(rt.alloc(), &setting, contacts.as_slice())?;
@@ -191,6 +194,7 @@ fn happens(alloc: Global, book: &mut Book, row: &Row) -> Result<bool, NoMemory> 
 /// Plays the rows over a book of these seeds.
 fn plays<R: Abort + AllocGlobal + RandomSource>(
     rt: &R,
+    claim: ClaimRule,
     paths: u8,
     per_address: u8,
     named: &[Whom],
@@ -198,7 +202,7 @@ fn plays<R: Abort + AllocGlobal + RandomSource>(
 ) -> Result<(), Fail>
     requires { 0 < paths }
 {
-    let mut book = begun(rt, paths, per_address, named)?;
+    let mut book = begun(rt, claim, paths, per_address, named)?;
     for row in rows {
         assert!(rt; happens(rt.alloc(), &mut book, row)?, "{row:?}");
     }
@@ -218,7 +222,7 @@ fn start<R: Abort + AllocGlobal + RandomSource>(
     requires { 0 < paths }
 {
     for (per_address, seeds) in starts {
-        let book = begun(rt, paths, *per_address, named)?;
+        let book = begun(rt, ClaimRule::Named, paths, *per_address, named)?;
         assert!(rt; begins(&book.into_journal(), seeds));
     }
     Ok(())
@@ -263,7 +267,14 @@ const PAST_THE_LIMIT: &[Row] = &[
 
 #[test]
 fn a_report_past_the_limit_is_turned_away(rt: HostRuntime) -> Result<(), Fail> {
-    plays(&rt, 1, 2, &[Whom::Four(1, 1)], PAST_THE_LIMIT)
+    plays(
+        &rt,
+        ClaimRule::Named,
+        1,
+        2,
+        &[Whom::Four(1, 1)],
+        PAST_THE_LIMIT,
+    )
 }
 
 const OF_A_SUBNET: &[Row] = &[Row::Goes(
@@ -281,7 +292,14 @@ const OF_A_SUBNET: &[Row] = &[Row::Goes(
 fn another_port_or_another_address_of_the_subnet_is_the_same_host(
     rt: HostRuntime,
 ) -> Result<(), Fail> {
-    plays(&rt, 1, 1, &[Whom::Six(1, 1, 1)], OF_A_SUBNET)
+    plays(
+        &rt,
+        ClaimRule::Named,
+        1,
+        1,
+        &[Whom::Six(1, 1, 1)],
+        OF_A_SUBNET,
+    )
 }
 
 const TWO_OF_A_HOST: &[Whom] = &[Whom::Four(1, 1), Whom::Four(2, 1)];
@@ -299,8 +317,8 @@ const ALL_TAKEN: &[Row] = &[Row::Goes(
 
 #[test]
 fn without_a_limit_as_many_as_come_are_taken(rt: HostRuntime) -> Result<(), Fail> {
-    plays(&rt, 1, 0, TWO_OF_A_HOST, ALL_TAKEN)?;
-    plays(&rt, 1, 255, TWO_OF_A_HOST, ALL_TAKEN)
+    plays(&rt, ClaimRule::Named, 1, 0, TWO_OF_A_HOST, ALL_TAKEN)?;
+    plays(&rt, ClaimRule::Named, 1, 255, TWO_OF_A_HOST, ALL_TAKEN)
 }
 
 const OF_TWO_HOSTS: &[Whom] = &[Whom::Four(1, 1), Whom::Four(2, 2)];
@@ -330,7 +348,56 @@ const ON_TWO_PATHS: &[Row] = &[
 
 #[test]
 fn another_path_takes_what_one_turns_away(rt: HostRuntime) -> Result<(), Fail> {
-    plays(&rt, 2, 1, OF_TWO_HOSTS, ON_TWO_PATHS)
+    plays(&rt, ClaimRule::Named, 2, 1, OF_TWO_HOSTS, ON_TWO_PATHS)
+}
+
+/// Path 0 asks 3, which path 1 took too: it is the one of its host on path 1, which turns 6 away.
+const ASKED_BY_ANOTHER: &[Row] = &[
+    Row::Goes(
+        0,
+        &[
+            Whom::Four(3, 3),
+            Whom::Four(4, 4),
+            Whom::Four(1, 1),
+            Whom::Four(3, 3),
+        ],
+        &[Told::Taken, Told::Taken, Told::Held(0), Told::Held(0)],
+    ),
+    Row::Goes(
+        1,
+        &[
+            Whom::Four(3, 3),
+            Whom::Four(5, 5),
+            Whom::Four(1, 1),
+            Whom::Four(3, 3),
+        ],
+        &[Told::Taken, Told::Taken, Told::Held(0), Told::Held(1)],
+    ),
+    Row::Goes(
+        0,
+        &[
+            Whom::Four(6, 3),
+            Whom::Four(2, 2),
+            Whom::Four(4, 4),
+            Whom::Four(5, 5),
+        ],
+        &[Told::Turned, Told::Held(1), Told::Held(0), Told::Taken],
+    ),
+    Row::Goes(
+        1,
+        &[
+            Whom::Four(6, 3),
+            Whom::Four(3, 3),
+            Whom::Four(1, 1),
+            Whom::Four(4, 4),
+        ],
+        &[Told::Turned, Told::Held(1), Told::Held(0), Told::Taken],
+    ),
+];
+
+#[test]
+fn what_another_path_asked_still_counts(rt: HostRuntime) -> Result<(), Fail> {
+    plays(&rt, ClaimRule::Asked, 2, 1, OF_TWO_HOSTS, ASKED_BY_ANOTHER)
 }
 
 const AFTER_A_LOSS: &[Row] = &[
@@ -349,7 +416,7 @@ const AFTER_A_LOSS: &[Row] = &[
 
 #[test]
 fn a_lost_contact_still_counts(rt: HostRuntime) -> Result<(), Fail> {
-    plays(&rt, 1, 1, OF_TWO_HOSTS, AFTER_A_LOSS)
+    plays(&rt, ClaimRule::Named, 1, 1, OF_TWO_HOSTS, AFTER_A_LOSS)
 }
 
 const EIGHT: &[Whom] = &[

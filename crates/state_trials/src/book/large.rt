@@ -4,7 +4,7 @@ ghost use Rattle.std.specs.Prelude.{◌<◌};
 use super::compare::{all_usable, seeds};
 use claim_book::{Book, BookCall, BookReply, Checked, Counts, Setting};
 use id_puzzles::Sha1Check;
-use kad_base::{Addr, Contact, Id, Ip, List, NoMemory, Policy, Report, Serial};
+use kad_base::{Addr, ClaimRule, Contact, Id, Ip, List, NoMemory, Policy, Report, Serial};
 use std::alloc::Global;
 use std::hash::RandomState;
 use std::process::Abort;
@@ -48,6 +48,7 @@ fn begun<R: Abort + AllocGlobal + RandomSource>(
         alpha: 1,
         policy: Policy::Plain,
         per_address: 0,
+        claim: ClaimRule::Named,
     };
     let seeds = seeds(rt.alloc(), &setting, contacts)?;
     assert!(rt; all_usable(&setting.own, seeds.as_slice()));

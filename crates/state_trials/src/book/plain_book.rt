@@ -1,8 +1,9 @@
 //! The book as filters over its journal, with no index: what the index is tried against. Each call costs more as the
-//! journal grows.
+//! journal grows. Where an ask is the claim, rows of lists and askers stand in the place of the filters that differ.
+use super::shortlists::Shortlists;
 use claim_book::{BookCall, BookReply, Cause, Checked, Counts, Entry, Setting, Thing};
 use kad_base::limits::MAX_PATH_CONTACTS;
-use kad_base::{Contact, Contacts, NoMemory, Reports, host_of, is_usable};
+use kad_base::{ClaimRule, Contact, Contacts, NoMemory, Reports, host_of, is_usable};
 use kad_distance::k_least;
 use std::alloc::Global;
 
@@ -10,6 +11,7 @@ use std::alloc::Global;
 pub(super) struct PlainBook {
     pub(super) setting: Setting,
     pub(super) journal: Vec<Entry>,
+    pub(super) lists: Shortlists,
 }
 
 /// The path and the contact of an entry by which a path got one.
@@ -138,7 +140,7 @@ fn give(things: &mut Vec<Thing>, entry: &Entry, one: u8) -> Result<(), NoMemory>
     Ok(())
 }
 
-fn push<T: Drop>(items: &mut Vec<T>, item: T) -> Result<(), NoMemory> {
+pub(super) fn push<T: Drop>(items: &mut Vec<T>, item: T) -> Result<(), NoMemory> {
     match items.push(item) {
         Ok(()) => Ok(()),
         Err(_) => Err(NoMemory),
@@ -183,19 +185,44 @@ impl PlainBook {
         setting: Setting,
         seeds: &[Contact],
     ) -> Result<PlainBook, NoMemory> {
-        let mut journal = Vec::new(alloc);
+        let mut book = PlainBook {
+            setting,
+            journal: Vec::new(alloc),
+            lists: Shortlists::new(alloc),
+        };
         let mut path = 0u8;
         for contact in seeds {
             let contact = *contact;
-            if !is_crowded(&setting, journal.as_slice(), path, &contact) {
-                push(&mut journal, Entry::Seed { path, contact })?;
+            if !is_crowded(&setting, book.journal.as_slice(), path, &contact) {
+                book.append(Entry::Seed { path, contact })?;
             }
             path = path.wrapping_add(1);
             if path >= setting.paths {
                 path = 0;
             }
         }
-        Ok(PlainBook { setting, journal })
+        Ok(book)
+    }
+
+    fn append(&mut self, entry: Entry) -> Result<(), NoMemory> {
+        self.lists.follow(&entry)?;
+        push(&mut self.journal, entry)
+    }
+
+    /// The k closest that the path may find, by the rule of claims.
+    fn nearest_on(&self, alloc: Global, path: u8) -> Result<Contacts, NoMemory> {
+        match self.setting.claim {
+            ClaimRule::Named => nearest(alloc, &self.setting, self.journal.as_slice(), Some(path)),
+            ClaimRule::Asked => self.lists.nearest(alloc, &self.setting, path),
+        }
+    }
+
+    /// Who holds the contact against the path, by the rule of claims.
+    fn holder(&self, path: u8, contact: &Contact) -> Option<u8> {
+        match self.setting.claim {
+            ClaimRule::Named => holder(self.journal.as_slice(), contact),
+            ClaimRule::Asked => self.lists.holder(path, contact),
+        }
     }
 
     pub(super) fn apply(
@@ -221,7 +248,7 @@ impl PlainBook {
         if count_open(journal, path) > 0 || front(alloc, journal, path)?.is_some() {
             return Ok(false);
         }
-        let near = nearest(alloc, &self.setting, journal, Some(path))?;
+        let near = self.nearest_on(alloc, path)?;
         Ok(
             near.as_slice()
                 .iter()
@@ -234,7 +261,7 @@ impl PlainBook {
         if count_open(journal, path) >= self.setting.alpha as usize {
             return Ok(None);
         }
-        let near = nearest(alloc, &self.setting, journal, Some(path))?;
+        let near = self.nearest_on(alloc, path)?;
         for contact in near.as_slice() {
             if !is_asked(journal, contact) {
                 return Ok(Some(*contact));
@@ -245,7 +272,7 @@ impl PlainBook {
 
     fn next(&mut self, alloc: Global, path: u8) -> Result<BookReply, NoMemory> {
         if let Some(contact) = self.may_ask(alloc, path)? {
-            push(&mut self.journal, Entry::Ask { path, contact })?;
+            self.append(Entry::Ask { path, contact })?;
             return Ok(BookReply::Ask { contact });
         }
         if self.has_run_out(alloc, path)? {
@@ -257,14 +284,11 @@ impl PlainBook {
     fn heard(&mut self, contact: Contact, reports: Reports) -> Result<BookReply, NoMemory> {
         match open_path(self.journal.as_slice(), &contact) {
             Some(path) => {
-                push(
-                    &mut self.journal,
-                    Entry::Heard {
-                        path,
-                        contact,
-                        reports,
-                    },
-                )?;
+                self.append(Entry::Heard {
+                    path,
+                    contact,
+                    reports,
+                })?;
                 Ok(BookReply::Kept)
             }
             None => Ok(BookReply::NotOpen),
@@ -274,14 +298,11 @@ impl PlainBook {
     fn lost(&mut self, contact: Contact, cause: Cause) -> Result<BookReply, NoMemory> {
         match open_path(self.journal.as_slice(), &contact) {
             Some(path) => {
-                push(
-                    &mut self.journal,
-                    Entry::Lost {
-                        path,
-                        contact,
-                        cause,
-                    },
-                )?;
+                self.append(Entry::Lost {
+                    path,
+                    contact,
+                    cause,
+                })?;
                 Ok(BookReply::Kept)
             }
             None => Ok(BookReply::NotOpen),
@@ -324,24 +345,32 @@ impl PlainBook {
         if front(alloc, self.journal.as_slice(), path)? != Some(Thing::Responder { contact }) {
             return Ok(BookReply::NotFront);
         }
-        push(&mut self.journal, Entry::Note { path, contact })?;
+        self.append(Entry::Note { path, contact })?;
         Ok(BookReply::Kept)
     }
 
     fn settle(&mut self, alloc: Global, path: u8, checked: Checked) -> Result<BookReply, NoMemory> {
         let report = checked.report();
-        let contact = report.contact;
-        let journal = self.journal.as_slice();
-        if front(alloc, journal, path)? != Some(Thing::Told { report })
+        if front(alloc, self.journal.as_slice(), path)? != Some(Thing::Told { report })
             || checked.policy() != self.setting.policy
         {
             return Ok(BookReply::NotFront);
         }
-        let (entry, reply) = if !is_usable(&self.setting.own, &contact) {
+        let (entry, reply) = self.judge(path, &checked);
+        self.append(entry)?;
+        Ok(reply)
+    }
+
+    /// The first rule that fits a report that may be settled.
+    fn judge(&self, path: u8, checked: &Checked) -> (Entry, BookReply) {
+        let report = checked.report();
+        let contact = report.contact;
+        let journal = self.journal.as_slice();
+        if !is_usable(&self.setting.own, &contact) {
             (Entry::Skipped { path, report }, BookReply::Skipped)
         } else if !checked.passes() {
             (Entry::Rejected { path, report }, BookReply::Rejected)
-        } else if let Some(by) = holder(journal, &contact) {
+        } else if let Some(by) = self.holder(path, &contact) {
             (
                 Entry::Held { path, contact, by },
                 BookReply::Held { path: by },
@@ -352,8 +381,6 @@ impl PlainBook {
             (Entry::Turned { path, contact }, BookReply::Turned)
         } else {
             (Entry::Taken { path, contact }, BookReply::Taken)
-        };
-        push(&mut self.journal, entry)?;
-        Ok(reply)
+        }
     }
 }

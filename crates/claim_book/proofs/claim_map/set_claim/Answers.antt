@@ -8,5 +8,6 @@ returns-in-Some c = record {
   each = record {
     contacts = λ d. (updates-with_value_at c.args.claims.now.contacts c.args.place c.args.claim key_equiv c.pair_mut-old.ensures.unique c.args.contact c.in-Some.field-0 c.in-Some.ensures.there).0 d;
     crowds = refl;
+    spots = refl;
   };
 }

@@ -1,4 +1,4 @@
-use Rattle.std.proofs.Common.{◌≡◌, Some, refl, sym, subst, arith}
+use Rattle.std.proofs.Common.{◌≡◌, rules, Some, refl, sym, subst, arith}
 use Rattle.claim_book.specs.declared.types.Entry.TheVariants.{Ask}
 use Rattle.claim_book.specs.State.{BookState}
 use Rattle.claim_book.specs.Journal.{may_ask}
@@ -6,7 +6,7 @@ use Rattle.claim_book.proofs.Claims.{may_ask_says}
 use Rattle.claim_book.proofs.Kept.{some_owed}
 use Rattle.claim_book.proofs.Mapped.{knows_near}
 use Rattle.claim_book.proofs.Pathed.{path_at}
-use Rattle.claim_book.proofs.Whole.{few_asked, ask_within, whole_asked}
+use Rattle.claim_book.proofs.Whole.{few_asked, ask_within, whole_asked, whole_lent}
 use Rattle.claim_book.proofs.state.Book.ask.Goals as goal
 
 pub put-requires-clause-some : goal.put-requires-clause-some
@@ -43,5 +43,12 @@ pub invariant_of-self : goal.invariant_of-self
 invariant_of-self c =
     let fits = subst (λ (b : BookState). may_ask b.setting c.args.path b.journal ≡ Some c.args.contact) (sym c.self.view_is) c.requires in
     let e = c.ask_one.ensures in
-    whole_asked c.self.inside.setting c.self.inside.journal.items _ c.args.path c.args.contact _ _ _ _ _ _ _ _ _ _ _ c.self.invariant fits
+    whole_lent c.self.inside.setting c.self.inside.journal.items _ c.args.path c.args.contact _ _ _ _ _ _ _ _ _ _ _ _ c.self.invariant (search rules) fits
+    c.put.ensures.items c.put.ensures.owed c.put.ensures.room c.mark_asked.ensures.each c.index_mut.ensures.value e.near e.fresh e.fresh_room e.count e.opens e.queue c.lend.ensures.len c.lend.ensures.each refl refl refl
+
+pub invariant_of-self-else-eq : goal.invariant_of-self-else-eq
+invariant_of-self-else-eq c =
+    let fits = subst (λ (b : BookState). may_ask b.setting c.args.path b.journal ≡ Some c.args.contact) (sym c.self.view_is) c.requires in
+    let e = c.ask_one.ensures in
+    whole_asked c.self.inside.setting c.self.inside.journal.items _ c.args.path c.args.contact _ _ _ _ _ _ _ _ _ _ _ c.self.invariant (search rules) fits
     c.put.ensures.items c.put.ensures.owed c.put.ensures.room c.mark_asked.ensures.each c.index_mut.ensures.value e.near e.fresh e.fresh_room e.count e.opens e.queue refl refl refl

@@ -1,9 +1,7 @@
-use Rattle.std.proofs.Common.{◌≡◌, Bool, true, false, ap, sym, subst, ◌∙◌, inl, inr}
+use Rattle.std.proofs.Common.{◌≡◌, Bool, true, false, subst, inl, inr}
 use Rattle.kad_base.specs.declared.types.Report.{Report}
-use Rattle.kad_base.specs.Contacts.{among}
-use Rattle.claim_book.specs.Journal.{took, path}
+use Rattle.claim_book.specs.Legal.{IsHeldBy, IsFree}
 use Rattle.claim_book.specs.Crowded.{IsCrowded}
-use Rattle.claim_book.proofs.Deciding.{some_holder, no_holder}
 use Rattle.claim_book.proofs.state.Book.judge_sound.Goals as goal
 
 clash : (b : Bool) → b ≡ false → b ≡ true → ⊥
@@ -11,15 +9,15 @@ clash b e f = absurd cc
 
 pub returns-in-Some : goal.returns-in-Some
 returns-in-Some c =
+    let s = c.args.self.now.setting in
     let J = c.args.self.now.journal in
-    let r = c.report-report.ensures in
-    (c.requires, ap (λ (x : Report). among (path c.in-Some.by J) x.contact) (sym r) ∙ some_holder J c.report-report.result.contact c.in-Some.by c.in-Some.ensures)
+    (c.requires, subst (λ (x : Report). IsHeldBy s.claim J c.args.path x.contact c.in-Some.by) c.report-report.ensures c.in-Some.ensures)
 
 pub returns-then-is_full : goal.returns-then-is_full
 returns-then-is_full c =
+    let s = c.args.self.now.setting in
     let J = c.args.self.now.journal in
-    let r = c.report-report.ensures in
-    (c.requires, ap (λ (x : Report). among (took J) x.contact) (sym r) ∙ no_holder J c.report-report.result.contact c.in-None.ensures, inl (c.is_full.ensures.full c.if-is_full.true))
+    (c.requires, subst (λ (x : Report). IsFree s.claim J c.args.path x.contact) c.report-report.ensures c.in-None.ensures, inl (c.is_full.ensures.full c.if-is_full.true))
 
 pub returns-then-is_crowded : goal.returns-then-is_crowded
 returns-then-is_crowded c =
@@ -27,12 +25,12 @@ returns-then-is_crowded c =
     let J = c.args.self.now.journal in
     let r = c.report-report.ensures in
     let crowded = subst (λ (x : Report). IsCrowded s J c.args.path x.contact) r (c.is_crowded.ensures.0 c.if-is_crowded.true) in
-    (c.requires, ap (λ (x : Report). among (took J) x.contact) (sym r) ∙ no_holder J c.report-report.result.contact c.in-None.ensures, inr crowded)
+    (c.requires, subst (λ (x : Report). IsFree s.claim J c.args.path x.contact) r c.in-None.ensures, inr crowded)
 
 pub returns-else-is_crowded : goal.returns-else-is_crowded
 returns-else-is_crowded c =
     let s = c.args.self.now.setting in
     let J = c.args.self.now.journal in
     let r = c.report-report.ensures in
-    let free = subst (λ (x : Report). ¬ IsCrowded s J c.args.path x.contact) r (λ x. clash _ c.if-is_crowded.false (c.is_crowded.ensures.1 x)) in
-    (c.requires, ap (λ (x : Report). among (took J) x.contact) (sym r) ∙ no_holder J c.report-report.result.contact c.in-None.ensures, c.is_full.ensures.room c.if-is_full.false, free)
+    let roomy = subst (λ (x : Report). ¬ IsCrowded s J c.args.path x.contact) r (λ x. clash _ c.if-is_crowded.false (c.is_crowded.ensures.1 x)) in
+    (c.requires, subst (λ (x : Report). IsFree s.claim J c.args.path x.contact) r c.in-None.ensures, c.is_full.ensures.room c.if-is_full.false, roomy)

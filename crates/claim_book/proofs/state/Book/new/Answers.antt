@@ -11,7 +11,7 @@ use Rattle.claim_book.proofs.Dealt.{dealt_counts}
 use Rattle.claim_book.proofs.state.Book.new.Goals as goal
 
 pub seed-requires-clause-none_claimed : goal.seed-requires-clause-none_claimed
-seed-requires-clause-none_claimed c = map_new c.args.setting c.no_claims-claims.result c.no_claims-claims.ensures.contacts c.no_claims-claims.ensures.crowds
+seed-requires-clause-none_claimed c = map_new c.args.setting c.no_claims-claims.result c.no_claims-claims.ensures.contacts c.no_claims-claims.ensures.crowds c.no_claims-claims.ensures.spots
 
 pub seed-requires-clause-none_kept : goal.seed-requires-clause-none_kept
 seed-requires-clause-none_kept c = paths_new c.args.setting c.in_ok-paths.paths.items c.in_ok-paths.ensures.len c.in_ok-paths.ensures.empty
