@@ -16,7 +16,7 @@ use bucket_tree::Gone;
 use contact_table::{Table, TableCall, TableReply, holds_what_it_was_told};
 use fake_net::ScriptLink;
 use id_puzzles::{Sha1Check, Words};
-use kad_base::{Contact, Family, Id, NoMemory, Policy, Serial, is_usable};
+use kad_base::{ClaimRule, Contact, Family, Id, NoMemory, Policy, Serial, is_usable};
 use lookup_run::{AskKind, LookFault, LookSetting, Outcome, look_up_alone};
 use script::peers_link;
 use seal_tags::GroupSeal;
@@ -46,6 +46,7 @@ fn setting(own: Id, paths: u8, kind: AskKind) -> LookSetting
         family: Family::Four,
         sealed: false,
         per_address: 0,
+        claim: ClaimRule::Named,
     }
 }
 

@@ -62,7 +62,7 @@ pub record IsWithinLimits (setting : ManySetting) : Type 0 where
 
 -- what its book is set to
 abbrev pub setting_for : ServeSetting → ManySetting → Job → Setting
-setting_for server setting job = record { own = server.own; target = target_of job; k = server.k; paths = setting.paths; alpha = setting.alpha; policy = server.policy; per_address = setting.per_address }
+setting_for server setting job = record { own = server.own; target = target_of job; k = server.k; paths = setting.paths; alpha = setting.alpha; policy = server.policy; per_address = setting.per_address; claim = setting.claim }
 
 -- what it asks, and what it believes: the node answers others, so it isn't read-only (BEP 43), and brings the proof of its
 -- identifier, if it has one

@@ -1,16 +1,18 @@
 //! What several lookups are given, and what they found.
 use claim_book::{Counts, Journal};
-use kad_base::{Addrs, Contacts, List, Numbers};
+use kad_base::{Addrs, ClaimRule, Contacts, List, Numbers};
 use lookup_core::{ItemList, Tokened};
 
 /// How each of several lookups goes: on how many disjoint paths, with how many queries at once on each, how long it waits
-/// for an answer, in milliseconds, and how many contacts of one host a path has at most (0: as many as come).
+/// for an answer, in milliseconds, how many contacts of one host a path has at most (0: as many as come), and from when on a
+/// contact is the path's that has it.
 #[derive(Clone, Copy, Debug, PartialEq, Eq)]
 pub struct ManySetting {
     pub paths: u8,
     pub alpha: u8,
     pub timeout: u32,
     pub per_address: u8,
+    pub claim: ClaimRule,
 }
 
 /// What one of several lookups found: the closest contacts, its numbers, its journal, the peers that the answers named, each

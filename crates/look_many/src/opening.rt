@@ -35,6 +35,7 @@ fn setting_of(server: &ServeSetting, setting: &ManySetting, job: &Job) -> Settin
         alpha: setting.alpha,
         policy: server.policy,
         per_address: setting.per_address,
+        claim: setting.claim,
     }
 }
 

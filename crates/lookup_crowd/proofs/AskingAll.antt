@@ -5,7 +5,6 @@ use Rattle.std.proofs.lemmas.Bool.{cases_lt}
 use Rattle.std.proofs.lemmas.List.{append-nil, append_assoc, length-append, length-set, set-get_or}
 use Rattle.kad_base.specs.declared.types.Contact.{Contact}
 use Rattle.kad_base.specs.declared.types.Event.{Event}
-use Rattle.kad_base.specs.Contacts.{among}
 use Rattle.kad_base.specs.Limits.{max_paths, max_path_contacts}
 use Rattle.kad_base.specs.Outside.{Grows}
 use Rattle.id_puzzles.specs.Drawn.{WordsState}
@@ -13,18 +12,17 @@ use Rattle.query_book.specs.declared.Query.{Query}
 use Rattle.claim_book.specs.declared.types.Cause.TheVariants.{SendFault}
 use Rattle.claim_book.specs.declared.types.Entry.{Entry}
 use Rattle.claim_book.specs.declared.types.Entry.TheVariants.{Ask, Lost}
-use Rattle.claim_book.specs.Journal.{path, asked, unsettled, may_ask}
+use Rattle.claim_book.specs.Journal.{asked, unsettled, may_ask}
 use Rattle.claim_book.specs.Legal.{Legal}
 use Rattle.claim_book.specs.State.{BookState, added}
-use Rattle.claim_book.proofs.More.{path_more, legal_more}
+use Rattle.claim_book.proofs.More.{legal_more}
 use Rattle.claim_book.proofs.Bounds.{asked_few}
-use Rattle.claim_book.proofs.Claims.{may_ask_on_path}
 use Rattle.lookup_core.specs.Sealed.{Accepts}
 use Rattle.lookup_core.specs.Timeouts.{deadline_of}
 use Rattle.lookup_core.specs.LookupSteps.{CanAsk}
 use Rattle.lookup_core.proofs.Lists.{all_append}
 use Rattle.lookup_core.proofs.Opening.{ask_counts, lost_counts, lost_added}
-use Rattle.lookup_core.proofs.Others.{none_after_ask, none_after_lost, settled_after_ask, settled_after_lost}
+use Rattle.lookup_core.proofs.Others.{asked_opens, none_after_ask, none_after_lost, settled_after_ask, settled_after_lost}
 use Rattle.node_serve.specs.declared.setting.ServeSetting.{ServeSetting}
 use Rattle.node_serve.specs.Sealing.{Tags}
 use Rattle.serve_crew.specs.Hands.{Hands}
@@ -78,7 +76,7 @@ sent_more p c b some small l may =
       one = ask_counts p J c;
       few = asked_few s (J ++ Ask p c ∷ []) some small (legal_more s J (Ask p c) l may);
       left = λ q. settled_after_ask s p q J c l;
-      others = λ q ne none. none_after_ask s p q J c ne none;
+      others = λ q ne none. none_after_ask s p q J c ne may none;
     }
 
 -- or it wasn't
@@ -88,7 +86,6 @@ unsent_more p c b some small l may =
     let J = b.journal in
     let J1 = J ++ Ask p c ∷ [] in
     let l1 = legal_more s J (Ask p c) l may in
-    let on : among (path p J1) c ≡ true = ap (λ k. among k c) (path_more p J (Ask p c) ∙ append-nil (path p J)) ∙ may_ask_on_path s p J c may in
     let few = asked_few s J1 some small l1 in
     let same = ask_counts p J c in
     let one = lost_counts p p J c c in
@@ -100,7 +97,7 @@ unsent_more p c b some small l may =
       one = one;
       few = omega (arith, few, same, one);
       left = λ q. settled_after_lost s p q J1 c SendFault l1 ∙ settled_after_ask s p q J c l;
-      others = λ q ne none. none_after_lost s p q J1 c SendFault l1 on ne (none_after_ask s p q J c ne none);
+      others = λ q ne none. none_after_lost s p q J1 c SendFault l1 (asked_opens s p J c l may) ne (none_after_ask s p q J c ne may none);
     }
 
 -- ---- one lookup

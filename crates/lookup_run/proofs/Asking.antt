@@ -25,7 +25,7 @@ use Rattle.claim_book.specs.Legal.{Legal}
 use Rattle.claim_book.specs.State.{BookState, added}
 use Rattle.claim_book.proofs.More.{path_more, legal_more}
 use Rattle.claim_book.proofs.Bounds.{asked_few}
-use Rattle.claim_book.proofs.Claims.{may_ask_says, may_ask_on_path}
+use Rattle.claim_book.proofs.Claims.{may_ask_says}
 use Rattle.lookup_run.specs.declared.types.LookSetting.{LookSetting}
 use Rattle.lookup_run.specs.declared.types.Progress.{Progress}
 use Rattle.lookup_run.specs.declared.types.LookupState.{LookupState}
@@ -41,7 +41,7 @@ use Rattle.lookup_run.specs.inner.RoundSteps.{Asks, AsksNone}
 use Rattle.lookup_run.proofs.Walking.{OneEvent, NextStep, along_next, along_later, table_same}
 use Rattle.lookup_core.proofs.Opening.{ask_counts, lost_counts}
 use Rattle.lookup_core.proofs.Opens.{opens_kept, each_asked, asker_new}
-use Rattle.lookup_core.proofs.Others.{none_after_ask, none_after_lost, settled_after_ask, settled_after_lost}
+use Rattle.lookup_core.proofs.Others.{asked_opens, none_after_ask, none_after_lost, settled_after_ask, settled_after_lost}
 use Rattle.lookup_core.proofs.Received.{query_back}
 use Rattle.lookup_core.specs.Gathered.{IsBare}
 use Rattle.lookup_core.proofs.Gathering.{keeps_none}
@@ -199,8 +199,8 @@ few_asks look J limits l =
 all_settled : (look : LookSetting) (p : ℕ) (J : List Entry) (c : Contact) → Legal (setting_of look) J → AllSettled look.paths J → AllSettled look.paths (J ++ Ask p c ∷ [])
 all_settled look p J c l h = λ q lt. settled_after_ask (setting_of look) p q J c l ∙ h q lt
 
-none_ask : (look : LookSetting) (p : ℕ) (J : List Entry) (c : Contact) → NoneAsks (setting_of look) p J → NoneAsks (setting_of look) p (J ++ Ask p c ∷ [])
-none_ask look p J c h = λ q lt. none_after_ask (setting_of look) p q J c (λ e. absurd (omega (arith, lt, e))) (h q lt)
+none_ask : (look : LookSetting) (p : ℕ) (J : List Entry) (c : Contact) → may_ask (setting_of look) p J ≡ Some c → NoneAsks (setting_of look) p J → NoneAsks (setting_of look) p (J ++ Ask p c ∷ [])
+none_ask look p J c may h = λ q lt. none_after_ask (setting_of look) p q J c (λ e. absurd (omega (arith, lt, e))) may (h q lt)
 
 pub sent_asks : (look : LookSetting) (p : ℕ) (c : Contact) (tx : ℕ) (words words' : WordsState) (old new : LookupState) (told told' : Option (List Event)) → Asking look p c tx words words' old → SameRest old new → new.lookup.book ≡ added old.lookup.book (Ask p c) → new.lookup.queries ≡ old.lookup.queries ++ the_query look c tx old ∷ [] → Holds new.lookup
     → Grows told told' (λ es. es ≡ Sent c.addr (query_bytes look tx) ∷ []) → Asks look p p words words' old new told told' × (weight_of new < weight_of old)
@@ -229,7 +229,7 @@ sent_asks look p c tx words words' old new told told' a rest book queries holds 
         };
         has_words = (let h = a.has_words in let d = ap (λ (w : WordsState). w.place) a.drawn in omega (arith, h, d, one));
         settled = subst (AllSettled look.paths) (sym journal) (all_settled look p J c a.legal a.settled);
-        none_below = subst (NoneAsks (setting_of look) p) (sym journal) (none_ask look p J c a.none_below);
+        none_below = subst (NoneAsks (setting_of look) p) (sym journal) (none_ask look p J c a.may a.none_below);
         progress = rest.progress;
         lighter = omega (arith, less);
         goes = λ b accepts. along_next look accepts words words' old new b b p p (Sent c.addr (query_bytes look tx)) told told' (sent_step look accepts p c tx words words' old new a rest book queries) grows;
@@ -249,7 +249,6 @@ unsent_asks look p c tx words words' old new told told' a rest book queries hold
     let journal : new.lookup.book.journal ≡ J' = ap (λ (b : BookState). b.journal) book in
     let k = a.keeps in
     let l1 = legal_more (setting_of look) J (Ask p c) a.legal a.may in
-    let on : among (path p J1) c ≡ true = on_path_still p J c (may_ask_on_path (setting_of look) p J c a.may) in
     let one : length (asked new.lookup.book.journal) ≡ length (asked J) + 1 = ap (λ K. length (asked K)) journal ∙ lost_counts p p J c c in
     let few : length (asked new.lookup.book.journal) ≤ max_asks = (let x = few_asks look J1 a.limits l1 in let y = ask_counts p J c in omega (arith, x, y, one)) in
     let same_queries : length new.lookup.queries ≡ length old.lookup.queries = ap length queries in
@@ -269,7 +268,7 @@ unsent_asks look p c tx words words' old new told told' a rest book queries hold
         };
         has_words = (let h = a.has_words in let d = ap (λ (w : WordsState). w.place) a.drawn in omega (arith, h, d, one));
         settled = subst (AllSettled look.paths) (sym journal) (λ q lt. settled_after_lost (setting_of look) p q J1 c SendFault l1 ∙ all_settled look p J c a.legal a.settled q lt);
-        none_below = subst (NoneAsks (setting_of look) p) (sym journal) (λ q lt. none_after_lost (setting_of look) p q J1 c SendFault l1 on (λ e. absurd (omega (arith, lt, e))) (none_ask look p J c a.none_below q lt));
+        none_below = subst (NoneAsks (setting_of look) p) (sym journal) (λ q lt. none_after_lost (setting_of look) p q J1 c SendFault l1 (asked_opens (setting_of look) p J c a.legal a.may) (λ e. absurd (omega (arith, lt, e))) (none_ask look p J c a.may a.none_below q lt));
         progress = rest.progress;
         lighter = omega (arith, less);
         goes = λ b accepts. along_next look accepts words words' old new b b p p (Unsent c.addr (query_bytes look tx)) told told' (unsent_step look accepts p c tx words words' old new a rest book queries) grows;

@@ -6,18 +6,18 @@ use Rattle.std.proofs.lemmas.List.{append-nil, append_assoc}
 use Rattle.kad_base.specs.Limits.{max_path_contacts}
 use Rattle.kad_base.specs.declared.types.Contact.{Contact}
 use Rattle.kad_base.specs.declared.types.Report.{Report}
-use Rattle.kad_base.specs.Contacts.{among, IsUsable}
+use Rattle.kad_base.specs.Contacts.{IsUsable}
 use Rattle.kad_base.specs.Puzzles.{Passes}
 use Rattle.claim_book.specs.declared.types.Setting.{Setting}
 use Rattle.claim_book.specs.declared.types.Thing.{Thing}
 use Rattle.claim_book.specs.declared.types.Thing.TheVariants.{Responder, Told}
 use Rattle.claim_book.specs.declared.types.Entry.{Entry}
 use Rattle.claim_book.specs.declared.types.Entry.TheVariants.{Note, Taken, Held, Turned, Rejected, Skipped}
-use Rattle.claim_book.specs.Journal.{took, path, things_of, settles_on, unsettled, first_unsettled}
+use Rattle.claim_book.specs.Journal.{path, things_of, settles_on, unsettled, first_unsettled}
 use Rattle.claim_book.specs.Crowded.{IsCrowded}
-use Rattle.claim_book.specs.Legal.{Fits, LegalAfter, Legal}
+use Rattle.claim_book.specs.Legal.{Fits, IsFree, IsHeldBy, LegalAfter, Legal}
 use Rattle.claim_book.proofs.More.{legal_more}
-use Rattle.claim_book.proofs.Claims.{one_path, path_took}
+use Rattle.claim_book.proofs.Holding.{held_by_one, held_not_free}
 use Rattle.claim_book.proofs.Ends.{first_below}
 use Rattle.claim_book.proofs.Kept.{off_this}
 use Rattle.claim_book.proofs.Unsettled.{settles, unsettled_kept}
@@ -57,14 +57,14 @@ entry_once s P (Rejected q r) other l f h sa sb e = absurd cc
 entry_once s P (Held q c x) (Note p d) l f h sa sb e = (let same = same_first P q p (Told f.0.report) (Responder d) e f.0.first h in absurd cc)
 entry_once s P (Held q c x) (Skipped p t) l f h sa sb e = (let same = same_first P q p (Told f.0.report) (Told t) e f.0.first h.0 in let is : f.0.report ≡ t = cc in absurd (h.1 (subst (λ w. IsUsable s.own w) (sym f.0.contact ∙ ap (λ (w : Report). w.contact) is) f.0.usable)))
 entry_once s P (Held q c x) (Rejected p t) l f h sa sb e = (let same = same_first P q p (Told f.0.report) (Told t) e f.0.first h.0 in let is : f.0.report ≡ t = cc in absurd (h.2 (subst (λ (w : Report). Passes s.policy w) is f.0.passes)))
-entry_once s P (Held q c x) (Held p d z) l f h sa sb e = (let same = same_first P q p (Told f.0.report) (Told h.0.report) e f.0.first h.0.first in let is : f.0.report ≡ h.0.report = cc in let one : c ≡ d = sym f.0.contact ∙ ap (λ (w : Report). w.contact) is ∙ h.0.contact in let by : x ≡ z = one_path s P l x z c f.1 (subst (λ w. among (path z P) w ≡ true) (sym one) h.1) in ap (λ n. Held n c x) e ∙ ap (λ w. Held p w x) one ∙ ap (λ n. Held p d n) by)
-entry_once s P (Held q c x) (Turned p d) l f h sa sb e = (let same = same_first P q p (Told f.0.report) (Told h.0.report) e f.0.first h.0.first in let is : f.0.report ≡ h.0.report = cc in let one : c ≡ d = sym f.0.contact ∙ ap (λ (w : Report). w.contact) is ∙ h.0.contact in let has = path_took x P c f.1 in let not_yet = ap (λ w. among (took P) w) one ∙ h.1 in absurd cc)
-entry_once s P (Held q c x) (Taken p d) l f h sa sb e = (let same = same_first P q p (Told f.0.report) (Told h.0.report) e f.0.first h.0.first in let is : f.0.report ≡ h.0.report = cc in let one : c ≡ d = sym f.0.contact ∙ ap (λ (w : Report). w.contact) is ∙ h.0.contact in let has = path_took x P c f.1 in let not_yet = ap (λ w. among (took P) w) one ∙ h.1 in absurd cc)
+entry_once s P (Held q c x) (Held p d z) l f h sa sb e = (let same = same_first P q p (Told f.0.report) (Told h.0.report) e f.0.first h.0.first in let is : f.0.report ≡ h.0.report = cc in let one : c ≡ d = sym f.0.contact ∙ ap (λ (w : Report). w.contact) is ∙ h.0.contact in let by : x ≡ z = held_by_one s P q x z c l f.1 (subst (λ w. IsHeldBy s.claim P q w z) (sym one) (subst (λ n. IsHeldBy s.claim P n d z) (sym e) h.1)) in ap (λ n. Held n c x) e ∙ ap (λ w. Held p w x) one ∙ ap (λ n. Held p d n) by)
+entry_once s P (Held q c x) (Turned p d) l f h sa sb e = (let same = same_first P q p (Told f.0.report) (Told h.0.report) e f.0.first h.0.first in let is : f.0.report ≡ h.0.report = cc in let one : c ≡ d = sym f.0.contact ∙ ap (λ (w : Report). w.contact) is ∙ h.0.contact in absurd (held_not_free s P q x c f.1 (subst (λ w. IsFree s.claim P q w) (sym one) (subst (λ n. IsFree s.claim P n d) (sym e) h.1))))
+entry_once s P (Held q c x) (Taken p d) l f h sa sb e = (let same = same_first P q p (Told f.0.report) (Told h.0.report) e f.0.first h.0.first in let is : f.0.report ≡ h.0.report = cc in let one : c ≡ d = sym f.0.contact ∙ ap (λ (w : Report). w.contact) is ∙ h.0.contact in absurd (held_not_free s P q x c f.1 (subst (λ w. IsFree s.claim P q w) (sym one) (subst (λ n. IsFree s.claim P n d) (sym e) h.1))))
 entry_once s P (Held q c x) other l f h sa sb e = absurd cc
 entry_once s P (Turned q c) (Note p d) l f h sa sb e = (let same = same_first P q p (Told f.0.report) (Responder d) e f.0.first h in absurd cc)
 entry_once s P (Turned q c) (Skipped p t) l f h sa sb e = (let same = same_first P q p (Told f.0.report) (Told t) e f.0.first h.0 in let is : f.0.report ≡ t = cc in absurd (h.1 (subst (λ w. IsUsable s.own w) (sym f.0.contact ∙ ap (λ (w : Report). w.contact) is) f.0.usable)))
 entry_once s P (Turned q c) (Rejected p t) l f h sa sb e = (let same = same_first P q p (Told f.0.report) (Told t) e f.0.first h.0 in let is : f.0.report ≡ t = cc in absurd (h.2 (subst (λ (w : Report). Passes s.policy w) is f.0.passes)))
-entry_once s P (Turned q c) (Held p d z) l f h sa sb e = (let same = same_first P q p (Told f.0.report) (Told h.0.report) e f.0.first h.0.first in let is : f.0.report ≡ h.0.report = cc in let one : c ≡ d = sym f.0.contact ∙ ap (λ (w : Report). w.contact) is ∙ h.0.contact in let has = path_took z P d h.1 in let not_yet = ap (λ w. among (took P) w) (sym one) ∙ f.1 in absurd cc)
+entry_once s P (Turned q c) (Held p d z) l f h sa sb e = (let same = same_first P q p (Told f.0.report) (Told h.0.report) e f.0.first h.0.first in let is : f.0.report ≡ h.0.report = cc in let one : c ≡ d = sym f.0.contact ∙ ap (λ (w : Report). w.contact) is ∙ h.0.contact in absurd (held_not_free s P p z d h.1 (subst (λ w. IsFree s.claim P p w) one (subst (λ n. IsFree s.claim P n c) e f.1))))
 entry_once s P (Turned q c) (Turned p d) l f h sa sb e = (let same = same_first P q p (Told f.0.report) (Told h.0.report) e f.0.first h.0.first in let is : f.0.report ≡ h.0.report = cc in let one : c ≡ d = sym f.0.contact ∙ ap (λ (w : Report). w.contact) is ∙ h.0.contact in ap (λ n. Turned n c) e ∙ ap (λ w. Turned p w) one)
 entry_once s P (Turned q c) (Taken p d) l f h sa sb e =
     let same = same_first P q p (Told f.0.report) (Told h.0.report) e f.0.first h.0.first in
@@ -75,7 +75,7 @@ entry_once s P (Turned q c) other l f h sa sb e = absurd cc
 entry_once s P (Taken q c) (Note p d) l f h sa sb e = (let same = same_first P q p (Told f.0.report) (Responder d) e f.0.first h in absurd cc)
 entry_once s P (Taken q c) (Skipped p t) l f h sa sb e = (let same = same_first P q p (Told f.0.report) (Told t) e f.0.first h.0 in let is : f.0.report ≡ t = cc in absurd (h.1 (subst (λ w. IsUsable s.own w) (sym f.0.contact ∙ ap (λ (w : Report). w.contact) is) f.0.usable)))
 entry_once s P (Taken q c) (Rejected p t) l f h sa sb e = (let same = same_first P q p (Told f.0.report) (Told t) e f.0.first h.0 in let is : f.0.report ≡ t = cc in absurd (h.2 (subst (λ (w : Report). Passes s.policy w) is f.0.passes)))
-entry_once s P (Taken q c) (Held p d z) l f h sa sb e = (let same = same_first P q p (Told f.0.report) (Told h.0.report) e f.0.first h.0.first in let is : f.0.report ≡ h.0.report = cc in let one : c ≡ d = sym f.0.contact ∙ ap (λ (w : Report). w.contact) is ∙ h.0.contact in let has = path_took z P d h.1 in let not_yet = ap (λ w. among (took P) w) (sym one) ∙ f.1 in absurd cc)
+entry_once s P (Taken q c) (Held p d z) l f h sa sb e = (let same = same_first P q p (Told f.0.report) (Told h.0.report) e f.0.first h.0.first in let is : f.0.report ≡ h.0.report = cc in let one : c ≡ d = sym f.0.contact ∙ ap (λ (w : Report). w.contact) is ∙ h.0.contact in absurd (held_not_free s P p z d h.1 (subst (λ w. IsFree s.claim P p w) one (subst (λ n. IsFree s.claim P n c) e f.1))))
 entry_once s P (Taken q c) (Turned p d) l f h sa sb e =
     let same = same_first P q p (Told f.0.report) (Told h.0.report) e f.0.first h.0.first in
     let is : f.0.report ≡ h.0.report = cc in

@@ -44,7 +44,7 @@ use Rattle.lookup_core.specs.Sealed.{Accepts}
 
 -- what the book is set to
 abbrev pub setting_of : LookSetting → Setting
-setting_of look = record { own = look.own; target = look.target; k = look.k; paths = look.paths; alpha = look.alpha; policy = look.policy; per_address = look.per_address }
+setting_of look = record { own = look.own; target = look.target; k = look.k; paths = look.paths; alpha = look.alpha; policy = look.policy; per_address = look.per_address; claim = look.claim }
 
 -- what it asks, and what it believes
 abbrev pub quest_of : LookSetting → Quest

@@ -4,7 +4,7 @@ ghost use Rattle.lookup_run.specs.Lookup.{setting_of, quest_of};
 
 use claim_book::{Counts, Journal, Setting};
 use contact_table::Table;
-use kad_base::{Addrs, Contacts, Family, Id, NoMemory, Policy};
+use kad_base::{Addrs, ClaimRule, Contacts, Family, Id, NoMemory, Policy};
 use lookup_core::{AskKind, Gathered, ItemList, Lookup, Quest, Tokened};
 use thiserror::Error;
 
@@ -13,7 +13,8 @@ use thiserror::Error;
 /// which reports may be believed, `timeout` how long to wait for an answer, in milliseconds, and `sealed` whether a reply
 /// has to carry a tag that the seal accepts. `family` is the network, of which there are two apart (BEP 32): in that of
 /// IPv6 queries ask for contacts of IPv6, and of answers the parts with these are read. A path has at most `per_address`
-/// contacts of one host (`kad_base::Host`), lost ones among them; 0 is no limit.
+/// contacts of one host (`kad_base::Host`), lost ones among them; 0 is no limit. `claim` says from when on a contact is the
+/// path's that has it.
 #[derive(Clone, Copy, Debug, PartialEq, Eq)]
 pub struct LookSetting {
     pub own: Id,
@@ -27,6 +28,7 @@ pub struct LookSetting {
     pub family: Family,
     pub sealed: bool,
     pub per_address: u8,
+    pub claim: ClaimRule,
 }
 
 impl LookSetting {
@@ -42,6 +44,7 @@ impl LookSetting {
             alpha: self.alpha,
             policy: self.policy,
             per_address: self.per_address,
+            claim: self.claim,
         }
     }
 

@@ -8,7 +8,9 @@ ghost use Rattle.claim_book.specs.State.{BookState};
 use bucket_tree::Seen;
 use claim_book::{Book, BookCall, BookReply, Entry, Setting};
 use contact_table::{Table, TableCall, TableReply};
-use kad_base::{Check, Contact, Id, List, NoMemory, Policy, Report, Reports, Serial, is_usable};
+use kad_base::{
+    Check, ClaimRule, Contact, Id, List, NoMemory, Policy, Report, Reports, Serial, is_usable,
+};
 use kad_distance::k_least;
 use path_worker::{settle_alone, settle_together};
 use std::alloc::Global;
@@ -65,6 +67,7 @@ fn setting(paths: u8, policy: Policy) -> Setting
         alpha: 1,
         policy,
         per_address: 0,
+        claim: ClaimRule::Named,
     }
 }
 

@@ -1,11 +1,17 @@
-use Rattle.std.proofs.Common.{refl, subst}
+use Rattle.std.proofs.Common.{refl, sym, subst}
 use Rattle.claim_book.specs.Legal.{Legal}
 use Rattle.lookup_run.specs.Rounds.{concurrent}
-use Rattle.lookup_run.specs.inner.RoundSteps.{Settles}
+use Rattle.lookup_run.specs.inner.RoundSteps.{MaySettle, Settles}
 use Rattle.lookup_run.proofs.Early.{ok_of, err_of}
 use Rattle.lookup_run.proofs.Settled.{stops_settling}
 use Rattle.lookup_run.proofs.Shuffled.{settles_together, ran_together}
 use Rattle.lookup_run.proofs.together.settle_each.Goals as goal
+
+pub settle_paths-requires : goal.settle_paths-requires
+settle_paths-requires g c =
+    let work = c.args.work in
+    subst (λ b. MaySettle c.args.look.now (record work { lookup = record { book = b; queries = work.lookup.queries } })) (sym c.has_several.ensures.same)
+    record { limits = c.requires.limits; keeps = c.requires.keeps; round_over = c.requires.round_over }
 
 pub returns-then-not-has_several : goal.returns-then-not-has_several
 returns-then-not-has_several g c =
