@@ -33,6 +33,7 @@ kind_words() {
         hex) echo 'an even number of hex digits, at least two' ;;
         version) echo '4 or 6' ;;
         yesno) echo 'yes or no' ;;
+        claim) echo 'named or asked' ;;
         address) echo 'an address and port, a.b.c.d:port or [h:h:h:h:h:h:h:h]:port, each h four hex digits' ;;
         *) echo "a number from ${1%-*} to ${1#*-}, without leading zeros" ;;
     esac
@@ -78,6 +79,7 @@ is_value() {
     case $1 in
         version) [ "$2" = 4 ] || [ "$2" = 6 ] ;;
         yesno) [ "$2" = yes ] || [ "$2" = no ] ;;
+        claim) [ "$2" = named ] || [ "$2" = asked ] ;;
         id) is_hex "$2" 40 ;;
         bytes) is_hex "$2" 64 ;;
         proof) is_hex "${2%%,*}" 64 && is_hex "${2#*,}" 40 ;;

@@ -38,6 +38,7 @@ look_of kind look random = record {
   family = look.family;
   sealed = look.sealed;
   per_address = look.per_address;
+  claim = look.claim;
 }
 
 -- what its book is set to

@@ -49,6 +49,7 @@ pub fn setting_for(kind: AskKind, look: &LookWords, random: &[u8; 32]) -> LookSe
         family: look.family,
         sealed: look.sealed,
         per_address: look.per_address,
+        claim: look.claim,
     }
 }
 

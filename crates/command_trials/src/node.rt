@@ -1,4 +1,5 @@
 //! Whole lookups and searches for peers over a scripted link, by `run`.
+mod claims;
 mod crowd;
 mod drawn;
 mod following;

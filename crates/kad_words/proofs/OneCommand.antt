@@ -8,17 +8,19 @@ use Rattle.kad_base.specs.declared.types.Id.{Id}
 use Rattle.kad_base.specs.declared.types.Proof.{Proof}
 use Rattle.kad_base.specs.declared.types.Policy.{Policy}
 use Rattle.kad_base.specs.declared.types.Policy.TheVariants as policy
+use Rattle.kad_base.specs.declared.types.ClaimRule.{ClaimRule}
+use Rattle.kad_base.specs.declared.types.ClaimRule.TheVariants.{Named, Asked}
 use Rattle.kad_base.specs.declared.types.Family.{Family}
 use Rattle.kad_base.specs.declared.types.Family.TheVariants.{Four, Six}
 use Rattle.kad_text.specs.Text.{SpellsBytes, SpellsHex, SpellsId, SpellsNumber, version}
-use Rattle.kad_words.specs.Table.{AreLooks, AreSaid, Choice, Entry, FamilyOf, IsLook, IsLookAt, IsLookOf, IsSaid, IsNodeOwn, MayIdOf, MayNumberOf, MayProofOf, MaySeedOf, NumberOf, Part, PolicyBy, Says, StandsOf, Values, Word, family_option, per_address_option, key_of, kind_of, kind_word, no_target, parts_of, word_of, YesOf, named_or_made, own_option, proof_option}
-use Rattle.kad_words.specs.Table.Part.{gives_id, gives_seed, gives_number, may_give_number, gives_yes, says_whether, gives_policy, gives_look, gives_item, gives_looks}
+use Rattle.kad_words.specs.Table.{AreLooks, AreSaid, Choice, ClaimOf, Entry, FamilyOf, IsLook, IsLookAt, IsLookOf, IsSaid, IsNodeOwn, MayIdOf, MayNumberOf, MayProofOf, MaySeedOf, NumberOf, Part, PolicyBy, Says, StandsOf, Values, Word, family_option, per_address_option, key_of, kind_of, kind_word, no_target, parts_of, word_of, YesOf, named_or_made, own_option, proof_option}
+use Rattle.kad_words.specs.Table.Part.{gives_id, gives_seed, gives_number, may_give_number, gives_claim, gives_yes, says_whether, gives_policy, gives_look, gives_item, gives_looks}
 use Rattle.kad_words.specs.Plain.{CommandOf, IsPlain, pairs_of, values_of}
 use Rattle.kad_words.specs.Fitting.{ends_below}
 use Rattle.kad_words.specs.declared.choice.Kind.{Kind}
-use Rattle.kad_words.specs.declared.choice.Kind.TheVariants.{IpVersion, Number, YesNo}
+use Rattle.kad_words.specs.declared.choice.Kind.TheVariants.{Claim, IpVersion, Number, YesNo}
 use Rattle.kad_words.specs.declared.choice.Need.{Need}
-use Rattle.kad_words.specs.declared.choice.Need.TheVariants.{OrElse, OrNo}
+use Rattle.kad_words.specs.declared.choice.Need.TheVariants.{OrElse, OrNamed, OrNo}
 use Rattle.kad_words.specs.declared.command.Command.{Command}
 use Rattle.kad_words.specs.declared.command.Command.TheVariants.{Lookup, Serve, Node, Table, Refresh, Mint, Sim}
 use Rattle.kad_words.specs.declared.command.CommandKind.{CommandKind}
@@ -30,7 +32,7 @@ use Rattle.kad_words.specs.declared.command.RefreshWords.{RefreshWords}
 use Rattle.kad_words.specs.declared.command.ServeWords.{ServeWords}
 use Rattle.kad_words.specs.declared.command.SimWords.{SimWords}
 use Rattle.kad_words.specs.declared.command.TableWords.{TableWords}
-use Rattle.kad_words.specs.Values.{FamilyBy, IsGiven, IsGivenOr, MayBeGiven, MayNumberBy, NumberBy, SpellsProofWord, SpellsYes, YesBy}
+use Rattle.kad_words.specs.Values.{ClaimBy, FamilyBy, IsGiven, IsGivenOr, MayBeGiven, MayNumberBy, NumberBy, SpellsClaim, SpellsProofWord, SpellsYes, YesBy}
 use Rattle.kad_words.proofs.Checks.{pairs_are}
 use Rattle.kad_words.proofs.Listing.{one_word}
 use Rattle.kad_words.proofs.ProofWord.{proof_once}
@@ -113,6 +115,23 @@ yes_once : (kind : Kind) (need : Need) (o : Option Word) (x y : Bool) → YesBy 
 yes_once YesNo OrNo o x y s t = said_once o x y s t
 yes_once kind need o x y s t = absurd s
 
+words_apart : codes "named" ≡ codes "asked" → ⊥
+words_apart e = (let same : ◌≡◌ {A = ℕ} 110 97 = cc in omega (arith, same))
+
+rule_once : (text : Word) (x y : ClaimRule) → SpellsClaim text x → SpellsClaim text y → x ≡ y
+rule_once text Named Named s t = refl
+rule_once text Asked Asked s t = refl
+rule_once text Named Asked s t = absurd (words_apart (sym s ∙ t))
+rule_once text Asked Named s t = absurd (words_apart (sym t ∙ s))
+
+ruled_once : (o : Option Word) (x y : ClaimRule) → IsGivenOr Named SpellsClaim o x → IsGivenOr Named SpellsClaim o y → x ≡ y
+ruled_once None x y s t = s ∙ sym t
+ruled_once (Some value) x y s t = rule_once value x y s t
+
+claim_once : (kind : Kind) (need : Need) (o : Option Word) (x y : ClaimRule) → ClaimBy kind need o x → ClaimBy kind need o y → x ≡ y
+claim_once Claim OrNamed o x y s t = ruled_once o x y s t
+claim_once kind need o x y s t = absurd s
+
 -- ---- what the words of a command ask for is one
 
 look_family_once : (value : Values) (a b : LookWords) → FamilyOf family_option value a.family → FamilyOf family_option value b.family → a.family ≡ b.family
@@ -142,7 +161,8 @@ look_at_once c d value a b same own family crowd s t =
     let bits = or_once 1 1 5 (lit< tt) _ a.bits b.bits s.bits t.bits in
     let passes = policy_once _ _ a.policy b.policy s.policy t.policy in
     let sealed = s.sealed ∙ sym t.sealed in
-    λ i. record { target = target i; own = own i; k = k i; paths = paths i; alpha = alpha i; timeout = timeout i; bits = bits i; policy = passes i; family = family i; sealed = sealed i; per_address = crowd i }
+    let claim = ruled_once _ a.claim b.claim s.claim t.claim in
+    λ i. record { target = target i; own = own i; k = k i; paths = paths i; alpha = alpha i; timeout = timeout i; bits = bits i; policy = passes i; family = family i; sealed = sealed i; per_address = crowd i; claim = claim i }
 
 look_once : (goal : Entry) (value : Values) (a b : LookWords) → IsLook goal value a → IsLook goal value b → a ≡ b
 look_once goal value a b s t =
@@ -173,6 +193,7 @@ data Shape : Type 0 where
   of_seed : Choice → Shape
   of_number : Choice → Shape
   of_may_number : Choice → Shape
+  of_claim : Choice → Shape
   of_yes : Choice → Shape
   of_whether : Choice → Shape
   of_policy : Shape
@@ -185,6 +206,7 @@ shape (gives_id c x) = of_id c
 shape (gives_seed c x) = of_seed c
 shape (gives_number c x) = of_number c
 shape (may_give_number c x) = of_may_number c
+shape (gives_claim c x) = of_claim c
 shape (gives_yes c x) = of_yes c
 shape (says_whether c x) = of_whether c
 shape (gives_policy x) = of_policy
@@ -215,6 +237,10 @@ part_once value (may_give_number c x) (may_give_number d y) e small s t =
     let same : d ≡ c = cc in
     let t' = subst (λ (k : Choice). MayNumberOf k value y) same t in
     let one = may_number_once c.entry.kind small _ x y s t' in cc
+part_once value (gives_claim c x) (gives_claim d y) e small s t =
+    let same : d ≡ c = cc in
+    let t' = subst (λ (k : Choice). ClaimOf k value y) same t in
+    let one = claim_once c.entry.kind c.entry.need _ x y s t' in cc
 part_once value (gives_yes c x) (gives_yes d y) e small s t =
     let same : d ≡ c = cc in
     let t' = subst (λ (k : Choice). YesOf k value y) same t in
@@ -312,7 +338,8 @@ sim_once a b same =
     let paths_is : a.paths ≡ b.paths = cc in
     let alpha_is : a.alpha ≡ b.alpha = cc in
     let timeout_is : a.timeout ≡ b.timeout = cc in
-    λ i. record { seed = seed_is i; nodes = nodes_is i; hostile = hostile_is i; k = k_is i; paths = paths_is i; alpha = alpha_is i; timeout = timeout_is i }
+    let claim_is : a.claim ≡ b.claim = cc in
+    λ i. record { seed = seed_is i; nodes = nodes_is i; hostile = hostile_is i; k = k_is i; paths = paths_is i; alpha = alpha_is i; timeout = timeout_is i; claim = claim_is i }
 
 made_once : (a b : Command) → kind_of a ≡ kind_of b → parts_of a ≡ parts_of b → a ≡ b
 made_once (Lookup a) (Lookup b) e same = cc

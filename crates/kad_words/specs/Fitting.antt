@@ -1,7 +1,7 @@
 -- Values that fit their options: those that are needed are there, and those that are there are of their kind.
 use Rattle.std.specs.Prelude.{◌≡◌, Bool, true, false, ◌&&◌, ℕ, List, ◌∷◌, drop, Option, Some, IfSome, bytes_eq, find, nat_lt}
 use Rattle.kad_words.specs.Table.{Entry, Word, options_of, Values, kind_word}
-use Rattle.kad_words.specs.Table.{alpha_option, bits_option, c1_option, c2_option, k_option, own_option, paths_option, timeout_option}
+use Rattle.kad_words.specs.Table.{alpha_option, bits_option, c1_option, c2_option, claim_option, k_option, own_option, paths_option, timeout_option}
 use Rattle.kad_words.specs.Plain.{AreThere, InPairs, IsOfKind, IsThere, pairs_of}
 use Rattle.kad_words.specs.declared.command.CommandKind.{CommandKind}
 use Rattle.kad_words.specs.declared.choice.Kind.{Kind}
@@ -27,6 +27,7 @@ pub record LookFits (value : Values) : Type 0 where
   pub bits : Fits bits_option.entry (value bits_option.entry.name)
   pub c1 : Fits c1_option.entry (value c1_option.entry.name)
   pub c2 : Fits c2_option.entry (value c2_option.entry.name)
+  pub claim : Fits claim_option.entry (value claim_option.entry.name)
 
 -- the words are of the plain form, for the command of this kind
 pub record IsPlainBy (kind : CommandKind) (words : List Word) : Type 0 where

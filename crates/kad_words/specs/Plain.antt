@@ -5,14 +5,15 @@ use Rattle.std.specs.Option.{IsSomeAnd}
 use Rattle.kad_base.specs.declared.types.Id.{Id}
 use Rattle.kad_base.specs.declared.types.Addr.{Addr}
 use Rattle.kad_base.specs.declared.types.Proof.{Proof}
+use Rattle.kad_base.specs.declared.types.ClaimRule.{ClaimRule}
 use Rattle.kad_base.specs.declared.types.Family.{Family}
 use Rattle.kad_text.specs.Text.{SpellsAddr, SpellsBytes, SpellsFamily, SpellsHex, SpellsId, SpellsNumber}
 use Rattle.kad_words.specs.Table.{Entry, Says, Values, Word, kind_named, kind_word, option_word, options_of, word_of}
-use Rattle.kad_words.specs.Values.{SpellsProofWord, SpellsYes}
+use Rattle.kad_words.specs.Values.{SpellsClaim, SpellsProofWord, SpellsYes}
 use Rattle.kad_words.specs.declared.choice.Kind.{Kind}
-use Rattle.kad_words.specs.declared.choice.Kind.TheVariants.{Identifier, Bytes32, AnyBytes, Number, IpVersion, Address, YesNo, KeyAndX}
+use Rattle.kad_words.specs.declared.choice.Kind.TheVariants.{Identifier, Bytes32, AnyBytes, Number, IpVersion, Address, YesNo, Claim, KeyAndX}
 use Rattle.kad_words.specs.declared.choice.Need.{Need}
-use Rattle.kad_words.specs.declared.choice.Need.TheVariants.{Required, Optional, OrElse, OrNo}
+use Rattle.kad_words.specs.declared.choice.Need.TheVariants.{Required, Optional, OrElse, OrNo, OrNamed}
 use Rattle.kad_words.specs.declared.command.Command.{Command}
 use Rattle.kad_words.specs.declared.command.CommandKind.{CommandKind}
 
@@ -44,6 +45,7 @@ IsOfKind (Number least most) text = (n : ℕ) × SpellsNumber least most text n
 IsOfKind IpVersion text = (family : Family) × SpellsFamily text family
 IsOfKind Address text = (addr : Addr) × SpellsAddr text addr
 IsOfKind YesNo text = (said : Bool) × SpellsYes text said
+IsOfKind Claim text = (rule : ClaimRule) × SpellsClaim text rule
 IsOfKind KeyAndX text = (proof : Proof) × SpellsProofWord text proof
 
 -- the option is one of these, and the value is one of its kind
@@ -62,6 +64,7 @@ IsThere Required value = IsSome value
 IsThere Optional value = Unit {0}
 IsThere (OrElse default) value = Unit {0}
 IsThere OrNo value = Unit {0}
+IsThere OrNamed value = Unit {0}
 
 -- each option that is required has a value
 abbrev pub AreThere : List Entry → List (Word × Word) → Type 0

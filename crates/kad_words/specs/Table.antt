@@ -2,6 +2,7 @@
 -- is required or what holds without it, and the commands that have it; and what the words of each command ask for.
 use Rattle.std.specs.Prelude.{◌≡◌, Bool, true, false, ℕ, List, [], ◌∷◌, ◌++◌, map, filter, codes, bytes_eq, find, option_map, is_some, replicate, Option, Some, None}
 use Rattle.std.specs.List.{list_any}
+use Rattle.kad_base.specs.declared.types.ClaimRule.{ClaimRule}
 use Rattle.kad_base.specs.declared.types.Family.{Family}
 use Rattle.kad_base.specs.declared.types.Family.TheVariants.{Four}
 use Rattle.kad_base.specs.declared.types.Id.{Id}
@@ -10,16 +11,16 @@ use Rattle.kad_base.specs.declared.types.Policy.{Policy}
 use Rattle.kad_base.specs.declared.types.Policy.TheVariants as policy
 use Rattle.kad_base.specs.Puzzles.{hash}
 use Rattle.kad_text.specs.Text.{SpellsBytes, SpellsHex, SpellsId}
-use Rattle.kad_words.specs.Values.{FamilyBy, IsGiven, MayBeGiven, MayNumberBy, NumberBy, SpellsProofWord, YesBy}
+use Rattle.kad_words.specs.Values.{ClaimBy, FamilyBy, IsGiven, MayBeGiven, MayNumberBy, NumberBy, SpellsProofWord, YesBy}
 use Rattle.kad_words.specs.declared.command.Command.{Command}
 use Rattle.kad_words.specs.declared.command.Command.TheVariants.{Lookup, Peers, Get, Put, Serve, Node, Table, Refresh, Check, Mint, Sim}
 use Rattle.kad_words.specs.declared.command.CommandKind.{CommandKind}
 use Rattle.kad_words.specs.declared.command.CommandKind.TheVariants as kind
 use Rattle.kad_words.specs.declared.command.LookWords.{LookWords}
 use Rattle.kad_words.specs.declared.choice.Kind.{Kind}
-use Rattle.kad_words.specs.declared.choice.Kind.TheVariants.{Identifier, Bytes32, AnyBytes, Number, IpVersion, Address, YesNo, KeyAndX}
+use Rattle.kad_words.specs.declared.choice.Kind.TheVariants.{Identifier, Bytes32, AnyBytes, Number, IpVersion, Address, YesNo, Claim, KeyAndX}
 use Rattle.kad_words.specs.declared.choice.Need.{Need}
-use Rattle.kad_words.specs.declared.choice.Need.TheVariants.{Required, Optional, OrElse, OrNo}
+use Rattle.kad_words.specs.declared.choice.Need.TheVariants.{Required, Optional, OrElse, OrNo, OrNamed}
 
 -- a word, as its bytes
 abbrev pub Word : Type 0
@@ -149,6 +150,10 @@ family_option = choice (codes "family") IpVersion (OrElse 4) (lookup ∷ peers �
 abbrev pub per_address_option : Choice
 per_address_option = choice (codes "per-address") (Number 0 255) (OrElse 0) (lookup ∷ peers ∷ get ∷ put ∷ serve ∷ node ∷ [])
 
+-- from when on a contact is a path's
+abbrev pub claim_option : Choice
+claim_option = choice (codes "claim") Claim OrNamed (lookup ∷ peers ∷ get ∷ put ∷ node ∷ sim ∷ [])
+
 abbrev pub bind_option : Choice
 bind_option = choice (codes "bind") Address Optional (lookup ∷ peers ∷ get ∷ put ∷ serve ∷ node ∷ refresh ∷ [])
 
@@ -195,8 +200,8 @@ hostile_option = choice (codes "hostile") (Number 0 100) (OrElse 0) (sim ∷ [])
 
 -- all of them
 abbrev pub every_option : List Choice
-every_option = target_option ∷ key_option ∷ value_option ∷ own_option ∷ proof_option ∷ k_option ∷ paths_option ∷ alpha_option ∷ timeout_option ∷ bits_option ∷ c1_option ∷ c2_option ∷ family_option ∷ per_address_option ∷ bind_option ∷ group_option ∷ announce_option ∷ spread_option ∷ receives_option
-    ∷ node_receives_option ∷ minutes_option ∷ workers_option ∷ table_option ∷ all_option ∷ seed_option ∷ tries_option ∷ nodes_option ∷ hostile_option ∷ []
+every_option = target_option ∷ key_option ∷ value_option ∷ own_option ∷ proof_option ∷ k_option ∷ paths_option ∷ alpha_option ∷ timeout_option ∷ bits_option ∷ c1_option ∷ c2_option ∷ family_option ∷ per_address_option ∷ claim_option ∷ bind_option ∷ group_option ∷ announce_option ∷ spread_option
+    ∷ receives_option ∷ node_receives_option ∷ minutes_option ∷ workers_option ∷ table_option ∷ all_option ∷ seed_option ∷ tries_option ∷ nodes_option ∷ hostile_option ∷ []
 
 -- the options of a command
 abbrev pub options_of : Word → List Entry
@@ -216,8 +221,8 @@ kind_named entries word = option_map (λ (e : Entry). e.kind) (find (λ (e : Ent
 abbrev pub Values : Type 0
 Values = Word → Option Word
 
--- what the values give for an option of each kind: an identifier, a proof, a seed, a number, a family, whether it says yes, or
--- whether it is given
+-- what the values give for an option of each kind: an identifier, a proof, a seed, a number, a family, a rule of claims, whether
+-- it says yes, or whether it is given
 abbrev pub MayIdOf : Choice → Values → Option Id → Type 0
 MayIdOf c value id = MayBeGiven SpellsId (value c.entry.name) id
 
@@ -235,6 +240,9 @@ MayNumberOf c value n = MayNumberBy c.entry.kind (value c.entry.name) n
 
 abbrev pub FamilyOf : Choice → Values → Family → Type 0
 FamilyOf c value family = FamilyBy c.entry.kind c.entry.need (value c.entry.name) family
+
+abbrev pub ClaimOf : Choice → Values → ClaimRule → Type 0
+ClaimOf c value rule = ClaimBy c.entry.kind c.entry.need (value c.entry.name) rule
 
 abbrev pub YesOf : Choice → Values → Bool → Type 0
 YesOf c value said = YesBy c.entry.kind c.entry.need (value c.entry.name) said
@@ -275,8 +283,8 @@ abbrev pub no_target : Id
 no_target = record { 0 = replicate 20 0 }
 
 -- a lookup over IPv4 that names these: its own identifier is drawn, buckets split by one bit, and every report passes
-abbrev pub plain_look : Id → ℕ → ℕ → ℕ → ℕ → LookWords
-plain_look goal k paths alpha timeout = record {
+abbrev pub plain_look : Id → ℕ → ℕ → ℕ → ℕ → ClaimRule → LookWords
+plain_look goal k paths alpha timeout rule = record {
   target = goal;
   own = None;
   k = k;
@@ -288,6 +296,7 @@ plain_look goal k paths alpha timeout = record {
   family = Four;
   sealed = false;
   per_address = 0;
+  claim = rule;
 }
 
 -- the options of a lookup with this target, but for its own identifier, its family and how many contacts of one host a path has
@@ -300,6 +309,7 @@ pub record IsLookAt (goal : Id) (value : Values) (look : LookWords) : Type 0 whe
   pub bits : NumberOf bits_option value look.bits
   pub policy : PolicyOf value look.policy
   pub sealed : StandsOf group_option value look.sealed
+  pub claim : ClaimOf claim_option value look.claim
 
 -- the same, if the target is the value of `goal`, and the family, how many of one host and its own identifier are those of the
 -- words
@@ -323,14 +333,15 @@ abbrev pub AreLooks : Values → Option Proof → LookWords → Type 0
 AreLooks value proof look =
     (look.family ≡ Four) × NumberOf per_address_option value look.per_address × IsLookAt no_target value look × MayProofOf proof_option value proof × IsNodeOwn value proof look.own
 
--- a part of a command, and the option that gives it: an identifier, a seed, a number, a number that may be left out,
--- whether it says yes, whether it is given; or a policy, a lookup with the option that names its target, an item and the
+-- a part of a command, and the option that gives it: an identifier, a seed, a number, a number that may be left out, a rule of
+-- claims, whether it says yes, whether it is given; or a policy, a lookup with the option that names its target, an item and the
 -- lookup of its key, or a proof and lookups whose targets no option names
 pub data Part : Type 0 where
   gives_id : Choice → Option Id → Part
   gives_seed : Choice → Option (List ℕ) → Part
   gives_number : Choice → ℕ → Part
   may_give_number : Choice → Option ℕ → Part
+  gives_claim : Choice → ClaimRule → Part
   gives_yes : Choice → Bool → Part
   says_whether : Choice → Bool → Part
   gives_policy : Policy → Part
@@ -344,6 +355,7 @@ IsSaid value (gives_id c id) = MayIdOf c value id
 IsSaid value (gives_seed c seed) = MaySeedOf c value seed
 IsSaid value (gives_number c n) = NumberOf c value n
 IsSaid value (may_give_number c n) = MayNumberOf c value n
+IsSaid value (gives_claim c rule) = ClaimOf c value rule
 IsSaid value (gives_yes c said) = YesOf c value said
 IsSaid value (says_whether c stands) = StandsOf c value stands
 IsSaid value (gives_policy policy) = PolicyOf value policy
@@ -370,7 +382,7 @@ parts_of (Refresh words) = gives_number timeout_option words.timeout ∷ says_wh
 parts_of (Check policy) = gives_policy policy ∷ []
 parts_of (Mint words) = gives_seed seed_option words.seed ∷ gives_number c1_option words.c1 ∷ gives_number c2_option words.c2 ∷ gives_number tries_option words.tries ∷ []
 parts_of (Sim words) =
-    gives_seed seed_option words.seed ∷ gives_number nodes_option words.nodes ∷ gives_number hostile_option words.hostile ∷ gives_number k_option words.k ∷ gives_number paths_option words.paths ∷ gives_number alpha_option words.alpha ∷ gives_number timeout_option words.timeout ∷ []
+    gives_seed seed_option words.seed ∷ gives_number nodes_option words.nodes ∷ gives_number hostile_option words.hostile ∷ gives_number k_option words.k ∷ gives_number paths_option words.paths ∷ gives_number alpha_option words.alpha ∷ gives_number timeout_option words.timeout ∷ gives_claim claim_option words.claim ∷ []
 
 -- what the values of a command line ask for
 abbrev pub Says : Values → Command → Type 0

@@ -1,12 +1,14 @@
 -- What the value of an option gives, if it is given and if it isn't.
 use Rattle.std.specs.Prelude.{◌≡◌, ℕ, List, ◌++◌, codes, Bool, true, false, Option, Some, None}
+use Rattle.kad_base.specs.declared.types.ClaimRule.{ClaimRule}
+use Rattle.kad_base.specs.declared.types.ClaimRule.TheVariants.{Named, Asked}
 use Rattle.kad_base.specs.declared.types.Family.{Family}
 use Rattle.kad_base.specs.declared.types.Proof.{Proof}
 use Rattle.kad_text.specs.Text.{SpellsFamily, SpellsHex, SpellsNumber, version}
 use Rattle.kad_words.specs.declared.choice.Kind.{Kind}
-use Rattle.kad_words.specs.declared.choice.Kind.TheVariants.{IpVersion, Number, YesNo}
+use Rattle.kad_words.specs.declared.choice.Kind.TheVariants.{Claim, IpVersion, Number, YesNo}
 use Rattle.kad_words.specs.declared.choice.Need.{Need}
-use Rattle.kad_words.specs.declared.choice.Need.TheVariants.{OrElse, OrNo}
+use Rattle.kad_words.specs.declared.choice.Need.TheVariants.{OrElse, OrNamed, OrNo}
 
 -- the value of an option that is required spells this
 abbrev pub IsGiven : {T : Type 0} → (List ℕ → T → Type 0) → Option (List ℕ) → T → Type 0
@@ -46,6 +48,11 @@ abbrev pub SpellsYes : List ℕ → Bool → Type 0
 SpellsYes text true = text ≡ codes "yes"
 SpellsYes text false = text ≡ codes "no"
 
+-- the text is the word of a rule by which a contact is a path's
+abbrev pub SpellsClaim : List ℕ → ClaimRule → Type 0
+SpellsClaim text Named = text ≡ codes "named"
+SpellsClaim text Asked = text ≡ codes "asked"
+
 -- the word is a proof in one: the key in 64 hex digits, a comma, and X in 40
 pub record SpellsProofWord (word : List ℕ) (proof : Proof) : Type 0 where
   pub key : List ℕ
@@ -53,6 +60,11 @@ pub record SpellsProofWord (word : List ℕ) (proof : Proof) : Type 0 where
   pub spelled : word ≡ key ++ codes "," ++ x
   pub spells_key : SpellsHex 32 key proof.key
   pub spells_x : SpellsHex 20 x proof.x
+
+-- the rule of an option that is `named` by default
+abbrev pub ClaimBy : Kind → Need → Option (List ℕ) → ClaimRule → Type 0
+ClaimBy Claim OrNamed value rule = IsGivenOr Named SpellsClaim value rule
+ClaimBy _ _ value rule = ⊥
 
 -- whether an option says yes that is `no` by default
 abbrev pub YesBy : Kind → Need → Option (List ℕ) → Bool → Type 0

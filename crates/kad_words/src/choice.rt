@@ -1,11 +1,12 @@
 //! An option: its name, what its value is, and what holds if it isn't given.
 ghost use Rattle.std.specs.Prelude.{◌≡◌, ◌↔◌, Bool, IsTrue, MatchOption, option_map};
+ghost use Rattle.kad_base.specs.declared.types.ClaimRule.{ClaimRule};
 ghost use Rattle.kad_base.specs.declared.types.Proof.{Proof};
 ghost use Rattle.kad_words.specs.Table.{option_word};
 ghost use Rattle.kad_words.specs.Plain.{IsOfKind, IsThere, IsValue};
-ghost use Rattle.kad_words.specs.Values.{SpellsProofWord, SpellsYes};
+ghost use Rattle.kad_words.specs.Values.{SpellsClaim, SpellsProofWord, SpellsYes};
 
-use kad_base::Proof;
+use kad_base::{ClaimRule, Proof};
 use kad_text::read::{is_hex, read_addr, read_family, read_hex, read_id, read_number};
 
 /// What the value of an option is.
@@ -25,6 +26,8 @@ pub(crate) enum Kind {
     Address,
     /// `yes` or `no`.
     YesNo,
+    /// From when on a contact is a path's: `named` or `asked`.
+    Claim,
     /// A public key of 32 bytes and an X of 20, each in hex, with a comma between them.
     KeyAndX,
 }
@@ -40,6 +43,8 @@ pub(crate) enum Need {
     OrElse(u32),
     /// It is `no`.
     OrNo,
+    /// It is `named`.
+    OrNamed,
 }
 
 /// An option of a command. Its word is its name after two dashes.
@@ -89,6 +94,7 @@ pub(crate) fn is_of_kind(kind: Kind, text: &str) -> bool
         Kind::IpVersion => read_family(text).is_some(),
         Kind::Address => read_addr(text).is_some(),
         Kind::YesNo => read_yes(text).is_some(),
+        Kind::Claim => read_claim(text).is_some(),
         Kind::KeyAndX => read_proof(text).is_some(),
     }
 }
@@ -101,6 +107,18 @@ pub(crate) fn read_yes(text: &str) -> Option<bool>
     match text {
         "yes" => Some(true),
         "no" => Some(false),
+        _ => None,
+    }
+}
+
+/// Reads by which rule a contact is a path's.
+pub(crate) fn read_claim(text: &str) -> Option<ClaimRule>
+    ensures { MatchOption result ((rule : ClaimRule) → ¬ SpellsClaim text.now rule)
+        (λ rule. SpellsClaim text.now rule) }
+{
+    match text {
+        "named" => Some(ClaimRule::Named),
+        "asked" => Some(ClaimRule::Asked),
         _ => None,
     }
 }
@@ -122,6 +140,6 @@ pub(crate) fn is_there(need: Need, value: Option<&str>) -> bool
 {
     match need {
         Need::Required => value.is_some(),
-        Need::Optional | Need::OrElse(_) | Need::OrNo => true,
+        Need::Optional | Need::OrElse(_) | Need::OrNo | Need::OrNamed => true,
     }
 }

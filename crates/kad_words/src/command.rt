@@ -8,15 +8,16 @@ ghost use Rattle.kad_words.specs.declared.command.CommandKind.{CommandKind};
 
 use crate::choice::{Choice, Kind, Need};
 use crate::options::{
-    ALL, ALPHA, ANNOUNCE, BIND, BITS, C1, C2, FAMILY, GROUP, HOSTILE, K, KEY, MINUTES,
+    ALL, ALPHA, ANNOUNCE, BIND, BITS, C1, C2, CLAIM, FAMILY, GROUP, HOSTILE, K, KEY, MINUTES,
     NODE_RECEIVES, NODES, OWN, PATHS, PER_ADDRESS, PROOF, RECEIVES, SEED, SPREAD, TARGET, TIMEOUT,
     TRIES, VALUE, WITH_TABLE, WORKERS,
 };
 use crate::values::{
-    family, id, needed_bytes, needed_id, number, policy, port, proof, says_yes, seed, small, stands,
+    claim, family, id, needed_bytes, needed_id, number, policy, port, proof, says_yes, seed, small,
+    stands,
 };
 use clap::ArgMatches;
-use kad_base::{Bytes, Family, Id, NoMemory, Policy, Proof};
+use kad_base::{Bytes, ClaimRule, Family, Id, NoMemory, Policy, Proof};
 use sha1::Sha1;
 use std::alloc::Global;
 use thiserror::Error;
@@ -79,9 +80,9 @@ pub enum Command {
 
 /// The options that every lookup has: the target, the node's own identifier if it is named, Kademlia's k, the
 /// disjoint paths, alpha on each, how long to wait for an answer, in milliseconds, Kademlia's b, which contacts pass, the
-/// network it is in, which BEP 32 keeps apart by family, whether an answer has to carry a group's tag, and how many contacts
-/// of one host a path has at most (0: as many as come; so always in `sim`). In `node` its table takes no more either, and its
-/// stores keep no more peers and items of one host.
+/// network it is in, which BEP 32 keeps apart by family, whether an answer has to carry a group's tag, how many contacts of
+/// one host a path has at most (0: as many as come; so always in `sim`), and from when on a contact is a path's. In `node` its
+/// table takes no more of one host either, and its stores keep no more peers and items of one host.
 #[derive(Clone, Copy, Debug, PartialEq, Eq)]
 pub struct LookWords {
     pub target: Id,
@@ -95,6 +96,7 @@ pub struct LookWords {
     pub family: Family,
     pub sealed: bool,
     pub per_address: u8,
+    pub claim: ClaimRule,
 }
 
 /// The options of `serve`: the node's own identifier where it is named, Kademlia's k and b, which contacts pass, how many
@@ -156,8 +158,8 @@ pub struct MintWords {
 }
 
 /// The options of `sim`: the seed where it is named, how many nodes the network has, of which `hostile` in a hundred are
-/// hostile; and of the lookup Kademlia's k, the disjoint paths, alpha on each, and how long to wait for an answer, in
-/// milliseconds.
+/// hostile; and of the lookup Kademlia's k, the disjoint paths, alpha on each, how long to wait for an answer, in
+/// milliseconds, and from when on a contact is a path's.
 #[derive(Clone, Copy, Debug, PartialEq, Eq)]
 pub struct SimWords {
     pub seed: Option<[u8; 32]>,
@@ -167,12 +169,20 @@ pub struct SimWords {
     pub paths: u8,
     pub alpha: u8,
     pub timeout: u32,
+    pub claim: ClaimRule,
 }
 
 /// The options of a lookup over IPv4 that names these, draws its own identifier, splits buckets by one bit, and takes every
 /// report.
-pub fn plain_look(target: Id, k: u8, paths: u8, alpha: u8, timeout: u32) -> LookWords
-    ensures { result ≡ plain_look target k paths alpha timeout }
+pub fn plain_look(
+    target: Id,
+    k: u8,
+    paths: u8,
+    alpha: u8,
+    timeout: u32,
+    claim: ClaimRule,
+) -> LookWords
+    ensures { result ≡ plain_look target k paths alpha timeout claim }
 {
     LookWords {
         target,
@@ -186,6 +196,7 @@ pub fn plain_look(target: Id, k: u8, paths: u8, alpha: u8, timeout: u32) -> Look
         family: Family::Four,
         sealed: false,
         per_address: 0,
+        claim,
     }
 }
 
@@ -200,7 +211,7 @@ pub enum WordsFault {
     NoMemory,
 }
 
-static LOOKUP: [Choice; 13] = [
+static LOOKUP: [Choice; 14] = [
     TARGET,
     OWN,
     K,
@@ -212,11 +223,12 @@ static LOOKUP: [Choice; 13] = [
     C2,
     FAMILY,
     PER_ADDRESS,
+    CLAIM,
     BIND,
     GROUP,
 ];
 
-static PEERS: [Choice; 15] = [
+static PEERS: [Choice; 16] = [
     KEY,
     OWN,
     K,
@@ -228,13 +240,14 @@ static PEERS: [Choice; 15] = [
     C2,
     FAMILY,
     PER_ADDRESS,
+    CLAIM,
     BIND,
     GROUP,
     ANNOUNCE,
     SPREAD,
 ];
 
-static GET: [Choice; 13] = [
+static GET: [Choice; 14] = [
     KEY,
     OWN,
     K,
@@ -246,11 +259,12 @@ static GET: [Choice; 13] = [
     C2,
     FAMILY,
     PER_ADDRESS,
+    CLAIM,
     BIND,
     GROUP,
 ];
 
-static PUT: [Choice; 14] = [
+static PUT: [Choice; 15] = [
     VALUE,
     OWN,
     K,
@@ -262,6 +276,7 @@ static PUT: [Choice; 14] = [
     C2,
     FAMILY,
     PER_ADDRESS,
+    CLAIM,
     BIND,
     GROUP,
     SPREAD,
@@ -282,7 +297,7 @@ static SERVE: [Choice; 12] = [
     WITH_TABLE,
 ];
 
-static NODE: [Choice; 15] = [
+static NODE: [Choice; 16] = [
     OWN,
     PROOF,
     K,
@@ -293,6 +308,7 @@ static NODE: [Choice; 15] = [
     C1,
     C2,
     PER_ADDRESS,
+    CLAIM,
     BIND,
     GROUP,
     NODE_RECEIVES,
@@ -308,7 +324,7 @@ static CHECK: [Choice; 2] = [C1, C2];
 
 static MINT: [Choice; 4] = [C1, C2, SEED, TRIES];
 
-static SIM: [Choice; 7] = [K, PATHS, ALPHA, TIMEOUT, SEED, NODES, HOSTILE];
+static SIM: [Choice; 8] = [K, PATHS, ALPHA, TIMEOUT, CLAIM, SEED, NODES, HOSTILE];
 
 /// Which command it is.
 #[derive(Clone, Copy, Debug, PartialEq, Eq)]
@@ -454,6 +470,7 @@ fn look_at(
         family,
         sealed: stands(matches, &GROUP),
         per_address,
+        claim: claim(matches, &CLAIM),
     }
 }
 
@@ -639,6 +656,7 @@ fn sim(matches: &ArgMatches) -> Command
         paths: small(matches, &PATHS),
         alpha: small(matches, &ALPHA),
         timeout: number(matches, &TIMEOUT),
+        claim: claim(matches, &CLAIM),
     };
     Command::Sim { words }
 }

@@ -69,6 +69,8 @@ pub(crate) const FAMILY: Choice = Choice {
 /// 0 is no limit.
 pub(crate) const PER_ADDRESS: Choice = choice!("per-address", 0, 255, 0);
 
+pub(crate) const CLAIM: Choice = choice!("claim", Claim, OrNamed);
+
 pub(crate) const BIND: Choice = choice!("bind", Address, Optional);
 
 pub(crate) const GROUP: Choice = choice!("group", Bytes32, Optional);

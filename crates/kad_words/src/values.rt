@@ -5,12 +5,12 @@ ghost use Rattle.kad_words.specs.Listed.{entry_of};
 ghost use Rattle.kad_words.specs.Table.{c1_option, c2_option, PolicyOf};
 ghost use Rattle.kad_words.specs.Taken.{taken_of};
 ghost use Rattle.kad_words.specs.Fitting.{Fits, ends_below, has_default, is_below};
-ghost use Rattle.kad_words.specs.Values.{FamilyBy, IsGiven, MayBeGiven, MayNumberBy, NumberBy, SpellsProofWord, YesBy};
+ghost use Rattle.kad_words.specs.Values.{ClaimBy, FamilyBy, IsGiven, MayBeGiven, MayNumberBy, NumberBy, SpellsProofWord, YesBy};
 
-use crate::choice::{Choice, Kind, Need, read_proof, read_yes};
+use crate::choice::{Choice, Kind, Need, read_claim, read_proof, read_yes};
 use crate::options::{C1, C2};
 use clap::ArgMatches;
-use kad_base::{Bytes, Family, Id, NoMemory, Policy, Proof};
+use kad_base::{Bytes, ClaimRule, Family, Id, NoMemory, Policy, Proof};
 use kad_text::read::{read_bytes, read_family, read_hex, read_id, read_number};
 use std::alloc::Global;
 
@@ -120,6 +120,20 @@ pub(crate) fn says_yes(matches: &ArgMatches, choice: &Choice) -> bool
     match matches.get_str(choice.name) {
         Some(text) => read_yes(text).unwrap(),
         None => false,
+    }
+}
+
+/// By which rule of an option a contact is a path's, or the rule that a name is a claim.
+pub(crate) fn claim(matches: &ArgMatches, choice: &Choice) -> ClaimRule
+    requires fits { Fits (entry_of choice.now) (taken_of matches.now choice.now.name.now) }
+    requires kind { choice.now.kind ≡ Kind.Claim }
+    requires need { choice.now.need ≡ Need.OrNamed }
+    ensures { ClaimBy choice.now.kind choice.now.need
+        (taken_of matches.now choice.now.name.now) result }
+{
+    match matches.get_str(choice.name) {
+        Some(text) => read_claim(text).unwrap(),
+        None => ClaimRule::Named,
     }
 }
 

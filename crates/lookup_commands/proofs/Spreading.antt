@@ -1,5 +1,5 @@
 -- Whom a command follows up that spreads over its lookup's paths: as the loops make the list, and what it is.
-use Rattle.std.proofs.Common.{◌≡◌, ◌≢◌, ℕ, zero, suc, ◌+◌, ◌<◌, ◌≤◌, List, [], ◌∷◌, ◌++◌, length, take, get_or, Bool, true, false, not, inl, inr, refl, sym, ap, ◌∙◌, arith, eqb}
+use Rattle.std.proofs.Common.{◌≡◌, ◌≢◌, ℕ, zero, suc, ◌+◌, ◌<◌, ◌≤◌, List, [], ◌∷◌, ◌++◌, length, take, get_or, Bool, true, false, not, inl, inr, refl, sym, ap, ◌∙◌, arith, eqb, ◌||◌}
 use Rattle.std.specs.List.{AllByRecursion, IsDistinct, flat_map, range_with_len}
 use Rattle.std.proofs.lemmas.List.{append_assoc, take_more}
 use Rattle.std.proofs.lemmas.List.Elements.{filter-append}
@@ -12,12 +12,13 @@ use Rattle.kad_distance.specs.KClosest.{k_closest}
 use Rattle.kad_distance.proofs.Chosen.{closest_rises}
 use Rattle.claim_book.specs.declared.types.Setting.{Setting}
 use Rattle.claim_book.specs.declared.types.Entry.{Entry}
-use Rattle.claim_book.specs.Journal.{path_of, fail_of, path, failed, alive, answered}
+use Rattle.claim_book.specs.Journal.{path_of, ask_elsewhere, fail_of, path, own, theirs, failed, alive, asked_on, answered}
 use Rattle.claim_book.specs.Legal.{Legal}
 use Rattle.claim_book.specs.Lineage.{IsContained}
 use Rattle.claim_book.specs.RunOut.{RunOut}
-use Rattle.claim_book.proofs.More.{flat_more, path_more, failed_more}
-use Rattle.claim_book.proofs.Claims.{alive_on_path, one_path}
+use Rattle.claim_book.proofs.Among.{without_twice}
+use Rattle.claim_book.proofs.More.{flat_more, path_more, theirs_more, failed_more}
+use Rattle.claim_book.proofs.Claims.{alive_on_path, alive_says, own_on_path, one_asker, asked_split, answered_asked}
 use Rattle.claim_book.proofs.Closest.{closest_within, distinct_sorted}
 use Rattle.claim_book.proofs.Descent.{is_contained}
 use Rattle.claim_book.proofs.Ends.{each_from_all}
@@ -67,13 +68,24 @@ numbers_more n =
     let z : 0 + n ≡ n = omega arith in
     ap (λ (m : ℕ). range_with_len 0 m) e ∙ range_more 0 n ∙ ap (λ (x : ℕ). range_with_len 0 n ++ x ∷ []) z
 
-closest_is : (t : Id) (k p : ℕ) (J : List Entry) → closest_on t k J p ≡ k_closest t k (without (path p J) (failed J))
-unfolding alive
-closest_is t k p J = refl
+pub theirs_none : (p : ℕ) → theirs p [] ≡ []
+unfolding theirs
+theirs_none p = refl
 
-pub spread_more : (t : Id) (k p : ℕ) (J : List Entry) (lost own near found found' : List Contact) → lost ≡ failed J → own ≡ without (path p J) lost → near ≡ k_closest t k own → found ≡ spread_over t k p J → found' ≡ found ++ near → found' ≡ spread_over t k (p + 1) J
-spread_more t k p J lost own near found found' gone on closest was is =
-    let here : near ≡ closest_on t k J p = closest ∙ ap (k_closest t k) (on ∙ ap (without (path p J)) gone) ∙ sym (closest_is t k p J) in
+pub theirs_on : (p : ℕ) (J : List Entry) (i : ℕ) (e : Entry) (asked asked' : List Contact) → i < length J → e ≡ get_or J i e → asked ≡ theirs p (take i J) → asked' ≡ asked ++ ask_elsewhere p e → asked' ≡ theirs p (take (i + 1) J)
+theirs_on p J i e asked asked' lt here was is =
+    is
+    ∙ ap (λ (l : List Contact). l ++ ask_elsewhere p e) was
+    ∙ sym (theirs_more p (take i J) e)
+    ∙ ap (theirs p) (front_more J i e lt here)
+
+closest_is : (t : Id) (k p : ℕ) (J : List Entry) → closest_on t k J p ≡ k_closest t k (without (path p J) (theirs p J ++ failed J))
+unfolding alive own
+closest_is t k p J = ap (k_closest t k) (sym (without_twice (path p J) (theirs p J) (failed J)))
+
+pub spread_more : (t : Id) (k p : ℕ) (J : List Entry) (gone own near found found' : List Contact) → gone ≡ theirs p J ++ failed J → own ≡ without (path p J) gone → near ≡ k_closest t k own → found ≡ spread_over t k p J → found' ≡ found ++ near → found' ≡ spread_over t k (p + 1) J
+spread_more t k p J gone own near found found' out on closest was is =
+    let here : near ≡ closest_on t k J p = closest ∙ ap (k_closest t k) (on ∙ ap (without (path p J)) out) ∙ sym (closest_is t k p J) in
     is
     ∙ ap (λ (l : List Contact). l ++ near) was
     ∙ ap (λ (l : List Contact). spread_over t k p J ++ l) here
@@ -120,15 +132,16 @@ distinct_joined [] ys d e apart = e
 distinct_joined (x ∷ xs) ys d e apart =
     (all_joined (λ y. same x y ≡ false) xs ys d.0 (none_same x ys (apart x (or_left (same x x) (among xs x) (same_itself x)))), distinct_joined xs ys d.1 e (λ c h. apart c (or_right (same c x) (among xs c) h)))
 
-flat_distinct : (f : ℕ → List Contact) (a n : ℕ) → ((p : ℕ) → IsDistinct same (f p)) → ((p q : ℕ) (c : Contact) → among (f p) c ≡ true → among (f q) c ≡ true → p ≡ q) → IsDistinct same (flat_map f (range_with_len a n))
+flat_distinct : (f : ℕ → List Contact) (a n : ℕ) → ((p : ℕ) → IsDistinct same (f p)) → ((p q : ℕ) (c : Contact) → p < a + n → q < a + n → among (f p) c ≡ true → among (f q) c ≡ true → p ≡ q) → IsDistinct same (flat_map f (range_with_len a n))
 unfolding IsDistinct
 flat_distinct f a zero each once = tt
 flat_distinct f a (suc n) each once =
     let rest : List Contact = flat_map f (range_with_len (a + 1) n) in
-    distinct_joined (f a) rest (each a) (flat_distinct f (a + 1) n each once)
+    distinct_joined (f a) rest (each a) (flat_distinct f (a + 1) n each (λ p q c lt lt'. once p q c (omega (arith, lt)) (omega (arith, lt'))))
     (λ c here. no_true (among rest c) (λ later.
     let w = has_of f (a + 1) n c later in
-    let e = once a w.number c here w.there in
+    let below = w.below in
+    let e = once a w.number c (omega arith) (omega (arith, below)) here w.there in
     let from = w.from in
     omega (arith, e, from)))
 
@@ -159,6 +172,18 @@ stands_in f a (suc n) p from below =
 on_its_path : (t : Id) (k : ℕ) (J : List Entry) (p : ℕ) (c : Contact) → among (closest_on t k J p) c ≡ true → among (path p J) c ≡ true
 on_its_path t k J p c h = (alive_on_path p J c (closest_within t k (alive p J) c h)).0
 
+-- whom a path has places for that has run out, the path itself asked
+asked_by_it : (s : Setting) (J : List Entry) (p : ℕ) (c : Contact) → Legal s J → RunOut s p J → among (closest_on s.target s.k J p) c ≡ true → among (asked_on p J) c ≡ true
+asked_by_it s J p c l out h =
+    let heard = each_from_all (λ x. among (answered J) x ≡ true) (closest_on s.target s.k J p) out.all_answered c h in
+    let free = (own_on_path p J c (alive_says p J c (closest_within s.target s.k (alive p J) c h)).0).1 in
+    let parts = sym (asked_split p J c) ∙ answered_asked s J l c heard in
+    pick (among (asked_on p J) c) (among (theirs p J) c) refl free parts
+  where
+    pick : (a b : Bool) → among (asked_on p J) c ≡ a → b ≡ false → (a || b) ≡ true → among (asked_on p J) c ≡ true
+    pick true b e f t = e
+    pick false b e f t = absurd cc
+
 pub spread_is : (s : Setting) (J : List Entry) → Legal s J → ((p : ℕ) → p < s.paths → RunOut s p J) → IsSpread s J
 unfolding IsContained
 spread_is s J l over =
@@ -166,7 +191,7 @@ spread_is s J l over =
     record {
       places = λ p lt. (let w = stands_in f 0 s.paths p (omega arith) (omega (arith, lt)) in record { before = w.before; behind = w.behind; own = w.own });
       once = flat_distinct f 0 s.paths (λ p. distinct_sorted s.target (f p) (closest_rises s.target s.k (alive p J)))
-          (λ p q c here there. one_path s J l p q c (on_its_path s.target s.k J p c here) (on_its_path s.target s.k J q c there));
+          (λ p q c lt lt' here there. one_asker s J l p q c (asked_by_it s J p c l (over p (omega (arith, lt))) here) (asked_by_it s J q c l (over q (omega (arith, lt'))) there));
       on_path = λ p c h. on_its_path s.target s.k J p c h;
       have_answered = λ p c lt h. each_from_all (λ x. among (answered J) x ≡ true) (f p) (over p lt).all_answered c h;
       contained = λ p H c closed h. (is_contained s J l p H closed).holds c (on_its_path s.target s.k J p c h);

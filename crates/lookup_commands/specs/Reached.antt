@@ -4,6 +4,7 @@ use Rattle.std.specs.Prelude.{◌≡◌, ℕ, ◌<◌, List, true, false}
 use Rattle.std.specs.List.{IsDistinct}
 use Rattle.std.specs.List.Sorted.{IsStrictlySortedBy}
 use Rattle.kad_base.specs.declared.types.Addr.{Addr}
+use Rattle.kad_base.specs.declared.types.ClaimRule.TheVariants.{Named}
 use Rattle.kad_base.specs.declared.types.Contact.{Contact}
 use Rattle.kad_base.specs.declared.types.Event.{Event}
 use Rattle.kad_base.specs.Contacts.{same, among}
@@ -33,14 +34,14 @@ use Rattle.command_base.specs.Called.{Called}
 use Rattle.command_base.specs.Started.{own_of, look_of, book_of, drawn_of, lookup_of, Start}
 
 -- The journal of a lookup that was asked for: it is legal and begins with the k closest contacts of the table that the
--- input gives, and every path has run out in it. So no contact is taken or asked twice, what a path asks comes from its own
--- seeds and answers, and each of the result has answered.
+-- input gives, and every path has run out in it. So no contact is asked twice, and none taken twice where a name is a claim; what a
+-- path asks comes from its own seeds and answers, and each of the result has answered.
 pub record HasRunOut (kind : AskKind) (look : LookWords) (random : List ℕ) (source : Shown ℕ) (J : List Entry) : Type 0 where
   pub start : Start look random source
   pub legal : Legal (book_of kind look random) J
   pub seeds_are : seeds J ≡ seeds_dealt (look_of kind look random) start.table
   pub run_out : (p : ℕ) → p < look.paths → RunOut (book_of kind look random) p J
-  pub taken_once : IsDistinct same (took J)
+  pub taken_once : look.claim ≡ Named → IsDistinct same (took J)
   pub asked_once : IsDistinct same (asked J)
   pub own_answers : GoesByOwnAnswers (book_of kind look random) J
   pub few_of_a_host : HasFewOfAHost (book_of kind look random) J

@@ -13,7 +13,7 @@ use Rattle.claim_book.specs.Journal.{alive, answered, path}
 use Rattle.claim_book.specs.Lineage.{Closed}
 use Rattle.claim_book.specs.Result.{result_of}
 
--- the k closest contacts of path p that were not lost
+-- the k closest contacts of path p that were not lost and that no other path asked
 abbrev pub closest_on : Id → ℕ → List Entry → ℕ → List Contact
 closest_on target k J p = k_closest target k (alive p J)
 

@@ -305,7 +305,7 @@ module _ (server : ServeSetting) (setting : ManySetting) (table : TableState) wh
         record {
           is_journal = f.journal;
           run_out = f.run_out;
-          taken_once = took_distinct set o.journal f.journal.legal;
+          taken_once = λ named. took_distinct set o.journal named f.journal.legal;
           asked_once = asked_distinct set o.journal f.journal.legal;
           own_answers = f.own_answers;
           few_of_a_host = has_few set o.journal f.journal.legal;

@@ -7,6 +7,7 @@ use Rattle.std.specs.List.{AllZip, IsDistinct}
 use Rattle.kad_base.specs.declared.types.Contact.{Contact}
 use Rattle.kad_base.specs.declared.types.Event.{Event}
 use Rattle.kad_base.specs.declared.types.Family.TheVariants.{Four}
+use Rattle.kad_base.specs.declared.types.ClaimRule.TheVariants.{Named}
 use Rattle.kad_base.specs.declared.types.Proof.{Proof}
 use Rattle.kad_base.specs.declared.types.Report.{Report}
 use Rattle.kad_base.specs.Contacts.{same, among}
@@ -68,7 +69,7 @@ server_of look proof random proofs = record {
 
 -- how each lookup goes
 abbrev pub each_of : LookWords → ManySetting
-each_of look = record { paths = look.paths; alpha = look.alpha; timeout = look.timeout; per_address = look.per_address }
+each_of look = record { paths = look.paths; alpha = look.alpha; timeout = look.timeout; per_address = look.per_address; claim = look.claim }
 
 -- ---- the input
 
@@ -128,12 +129,12 @@ IsPrinted with_table table jobs many text = (texts : List ℕ) × AreTextsOf job
 -- ---- the lookups
 
 -- The lookup of a job has run out: its journal is legal and begins with the k closest of the table, and every path has run
--- out in it. So no contact is taken or asked twice, what a path asks comes from its own seeds and answers, no path has or asks more
--- contacts of one host than the words say, and each of the result has answered.
+-- out in it. So no contact is asked twice, and none taken twice where a name is a claim; what a path asks comes from its own seeds and
+-- answers, no path has or asks more contacts of one host than the words say, and each of the result has answered.
 pub record HasRunOutFor (server : ServeSetting) (setting : ManySetting) (table : TableState) (job : Job) (journal : List Entry) : Type 0 where
   pub is_journal : IsJournalFor server setting table job journal
   pub run_out : (p : ℕ) → p < setting.paths → RunOut (setting_for server setting job) p journal
-  pub taken_once : IsDistinct same (took journal)
+  pub taken_once : setting.claim ≡ Named → IsDistinct same (took journal)
   pub asked_once : IsDistinct same (asked journal)
   pub own_answers : GoesByOwnAnswers (setting_for server setting job) journal
   pub few_of_a_host : HasFewOfAHost (setting_for server setting job) journal

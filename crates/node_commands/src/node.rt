@@ -175,6 +175,7 @@ fn look_all<'a, R: Threads + Wait + Sync, L: Link, C: PacedCheck + Sync, G: Seal
         alpha: look.alpha,
         timeout: look.timeout,
         per_address: look.per_address,
+        claim: look.claim,
     };
     let mut words = Words::new(&call.random, FIRST_TX);
     let given = Given {

@@ -13,7 +13,7 @@ use crate::words::StudySetting;
 use contact_table::{Table, TableCall, holds_what_it_was_told};
 use id_puzzles::{Sha1Check, Words};
 use kad_base::limits::{DEFAULT_TIMEOUT, MAX_ALPHA, MAX_K, MAX_PATHS};
-use kad_base::{Contact, Family, Id, NoMemory, Policy, Serial, is_usable};
+use kad_base::{ClaimRule, Contact, Family, Id, NoMemory, Policy, Serial, is_usable};
 use kad_distance::k_least;
 use lookup_run::{AskKind, LookSetting, Outcome, look_up_alone};
 use seal_tags::GroupSeal;
@@ -143,6 +143,7 @@ fn look_setting(setting: &StudySetting, own: Id, target: Id) -> Option<LookSetti
         family: Family::Four,
         sealed: false,
         per_address: 0,
+        claim: ClaimRule::Named,
     })
 }
 

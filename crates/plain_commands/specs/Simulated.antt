@@ -47,6 +47,7 @@ simulation_by words seed = record {
   paths = words.paths;
   alpha = words.alpha;
   timeout = words.timeout;
+  claim = words.claim;
 }
 
 abbrev pub simulation_of : SimWords → List ℕ → Simulation
@@ -59,7 +60,7 @@ network_of s = record { seed = s.seed; count = s.nodes; hostile = s.hostile }
 -- the options of its lookup: the target and the node's own identifier are drawn from the seed, buckets split by one bit,
 -- and every report passes
 abbrev pub look_to : Id → Simulation → LookWords
-look_to target s = plain_look target s.k s.paths s.alpha s.timeout
+look_to target s = plain_look target s.k s.paths s.alpha s.timeout s.claim
 
 abbrev pub sim_look : Simulation → LookWords
 sim_look s = look_to (target_of s.seed) s

@@ -14,7 +14,9 @@ use command_base::{Call, Status};
 use contact_table::Table;
 use fake_net::SimNet;
 use id_puzzles::Words;
-use kad_base::{Bytes, Check, Contact, Contacts, Id, List, NoMemory, Report, Reports, is_same};
+use kad_base::{
+    Bytes, Check, ClaimRule, Contact, Contacts, Id, List, NoMemory, Report, Reports, is_same,
+};
 use kad_words::{LookWords, SimWords, plain_look};
 use lookup_run::{AskKind, LookFault, LookSetting, Outcome, look_up_alone};
 use seal_tags::{GroupSeal, Seal, SealCheck};
@@ -30,6 +32,7 @@ pub struct Simulation {
     pub paths: u8,
     pub alpha: u8,
     pub timeout: u32,
+    pub claim: ClaimRule,
 }
 
 /// The options of the lookup of a target.
@@ -42,6 +45,7 @@ fn look_to(target: Id, simulation: &Simulation) -> LookWords
         simulation.paths,
         simulation.alpha,
         simulation.timeout,
+        simulation.claim,
     )
 }
 
@@ -223,6 +227,7 @@ fn simulation_for(words: &SimWords, random: &[u8; 32]) -> Simulation
         paths: words.paths,
         alpha: words.alpha,
         timeout: words.timeout,
+        claim: words.claim,
     }
 }
 

@@ -8,7 +8,7 @@ mod others;
 mod refused;
 mod serving;
 
-use kad_base::{Family, Id, Policy};
+use kad_base::{ClaimRule, Family, Id, Policy};
 use kad_words::{
     Command, LookWords, MintWords, NodeWords, RefreshWords, ServeWords, SimWords, TableWords,
     WordsFault, read,
@@ -52,6 +52,7 @@ const LOOK: LookWords = LookWords {
     family: Family::Four,
     sealed: false,
     per_address: 0,
+    claim: ClaimRule::Named,
 };
 
 /// A lookup of `ID` with the greatest values.
@@ -67,6 +68,7 @@ const GREATEST: LookWords = LookWords {
     family: Family::Six,
     sealed: true,
     per_address: 255,
+    claim: ClaimRule::Asked,
 };
 
 /// What a line gives.

@@ -1,7 +1,7 @@
 //! Words of lookups, and of what a lookup gets and puts.
 use super::Given::{Get, Lookup, Peers, Put};
 use super::{GREATEST, LOOK, NAMED, Row, all_give};
-use kad_base::{Family, Id, Policy};
+use kad_base::{ClaimRule, Family, Id, Policy};
 use kad_words::LookWords;
 use std::test::Fail;
 
@@ -102,6 +102,14 @@ const LOOKUPS: &[Row] = &[
             ..LOOK
         }),
     ),
+    ("lookup --claim named --target ID", Lookup(LOOK)),
+    (
+        "lookup --target ID --claim asked",
+        Lookup(LookWords {
+            claim: ClaimRule::Asked,
+            ..LOOK
+        }),
+    ),
 ];
 
 #[test]
@@ -124,7 +132,7 @@ const SEARCHES: &[Row] = &[
         Peers(OWN_K_3, Some(65535), false),
     ),
     (
-        "peers --key ID --own ID --k 20 --paths 8 --alpha 4 --timeout 60000 --bits 5 --c1 32 --c2 32 --family 6 --per-address 255 --bind 1.2.3.4:5 --group SEED --announce 1 --spread yes",
+        "peers --key ID --own ID --k 20 --paths 8 --alpha 4 --timeout 60000 --bits 5 --c1 32 --c2 32 --family 6 --per-address 255 --claim asked --bind 1.2.3.4:5 --group SEED --announce 1 --spread yes",
         Peers(GREATEST, Some(1), true),
     ),
 ];
@@ -138,7 +146,7 @@ const GETS: &[Row] = &[
     ("get --key ID", Get(LOOK)),
     ("get --k 3 --key ID", Get(K_3)),
     (
-        "get --key ID --own ID --k 20 --paths 8 --alpha 4 --timeout 60000 --bits 5 --c1 32 --c2 32 --family 6 --per-address 255 --bind 1.2.3.4:5 --group SEED",
+        "get --key ID --own ID --k 20 --paths 8 --alpha 4 --timeout 60000 --bits 5 --c1 32 --c2 32 --family 6 --per-address 255 --claim asked --bind 1.2.3.4:5 --group SEED",
         Get(GREATEST),
     ),
 ];
@@ -185,7 +193,7 @@ const PUTS: &[Row] = &[
         ),
     ),
     (
-        "put --value 353a68656c6c6f --own ID --k 20 --paths 8 --alpha 4 --timeout 60000 --bits 5 --c1 32 --c2 32 --family 6 --bind 1.2.3.4:5 --group SEED --per-address 255 --spread yes",
+        "put --value 353a68656c6c6f --own ID --k 20 --paths 8 --alpha 4 --timeout 60000 --bits 5 --c1 32 --c2 32 --family 6 --bind 1.2.3.4:5 --group SEED --per-address 255 --claim asked --spread yes",
         Put(
             LookWords {
                 target: HELLO,

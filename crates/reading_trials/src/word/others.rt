@@ -1,7 +1,7 @@
 //! Words of the commands that neither look up nor serve.
 use super::Given::{Check, Mint, Refresh, Sim, Table};
 use super::{NAMED, Row, SOWN, all_give};
-use kad_base::{Id, Policy};
+use kad_base::{ClaimRule, Id, Policy};
 use kad_words::{MintWords, RefreshWords, SimWords, TableWords};
 use std::test::Fail;
 
@@ -109,6 +109,7 @@ const NETWORK: SimWords = SimWords {
     paths: 4,
     alpha: 3,
     timeout: 2000,
+    claim: ClaimRule::Named,
 };
 
 const SIMS: &[Row] = &[
@@ -130,6 +131,15 @@ const SIMS: &[Row] = &[
             paths: 3,
             alpha: 2,
             timeout: 7,
+            ..NETWORK
+        }),
+    ),
+    ("sim --claim named", Sim(NETWORK)),
+    (
+        "sim --nodes 1 --claim asked",
+        Sim(SimWords {
+            nodes: 1,
+            claim: ClaimRule::Asked,
             ..NETWORK
         }),
     ),

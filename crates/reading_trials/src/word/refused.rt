@@ -48,6 +48,33 @@ const NO_PROOFS: &[&str] = &[
     "mint --proof PROOF",
 ];
 
+const NO_CLAIMS: &[&str] = &[
+    "lookup --target ID --claim",
+    "lookup --target ID --claim ",
+    "lookup --target ID --claim yes",
+    "lookup --target ID --claim Asked",
+    "lookup --target ID --claim asked ",
+    "lookup --target ID --claim ask",
+    "lookup --target ID --claim askedd",
+    "lookup --target ID --claim namedasked",
+    "lookup --target ID --claim asked --claim asked",
+    "lookup --target ID --claim named --claim asked",
+    "peers --key ID --claim 0",
+    "get --key ID --claim none",
+    "node --claim no",
+    "sim --claim 1",
+    "serve --claim asked",
+    "table --claim asked",
+    "refresh --claim asked",
+    "check --claim asked",
+    "mint --claim asked",
+];
+
+#[test]
+fn words_that_are_no_claim(rt: HostRuntime) -> Result<(), Fail> {
+    all_are_refused(rt.alloc(), NO_CLAIMS)
+}
+
 #[test]
 fn words_that_are_no_proof(rt: HostRuntime) -> Result<(), Fail> {
     all_are_refused(rt.alloc(), NO_PROOFS)

@@ -102,7 +102,7 @@ const NODES: &[Row] = &[
         }),
     ),
     (
-        "node --table yes --own ID --k 20 --paths 8 --alpha 4 --timeout 60000 --bits 5 --c1 32 --c2 32 --per-address 255 --bind 1.2.3.4:5 --group SEED --receives 1 --minutes 10080",
+        "node --table yes --own ID --k 20 --paths 8 --alpha 4 --timeout 60000 --bits 5 --c1 32 --c2 32 --per-address 255 --claim asked --bind 1.2.3.4:5 --group SEED --receives 1 --minutes 10080",
         Node(NodeWords {
             look: LookWords {
                 target: Id([0; 20]),
