@@ -181,9 +181,14 @@ class Field:
 FRESH, OPEN, ANSWERED, FAILED = range(4)
 
 
+def is_among(ordered, contact):
+    place = bisect.bisect_left(ordered, contact)
+    return place < len(ordered) and ordered[place] == contact
+
+
 class Path:
-    """A path's contacts that didn't fail, nearest first; how many it had, how many of its queries are open, and what its
-    answers named that is not settled."""
+    """A path's contacts that didn't fail and that no other path asked, nearest first; how many it had, how many of its queries
+    are open, and what its answers named that is not settled."""
 
     __slots__ = ("alive", "count", "open", "heard", "changed")
 
@@ -192,11 +197,13 @@ class Path:
 
 
 class Lookup:
-    """A lookup from these seeds, which are distances, on so many disjoint paths. `answered` has who answered, `asked` counts
+    """A lookup from these seeds, which are distances, on so many disjoint paths. A contact is a path's, so that no other takes it,
+    once it is named to the path, or, if the claim is "asked", once the path asks it. `answered` has who answered, `asked` counts
     the queries, `hostile` those to hostile nodes and to contacts that they invented, and `moment` says when it ended."""
 
-    def __init__(self, field, own, seeds, k, paths, alpha, capacity=CAPACITY):
+    def __init__(self, field, own, seeds, k, paths, alpha, capacity=CAPACITY, claim="named"):
         self.field, self.k, self.alpha, self.capacity = field, k, alpha, capacity
+        self.is_shared = claim == "asked" and paths > 1  # whether a contact may be on the lists of several paths
         self.paths = [Path() for _ in range(paths)]
         self.states = {own: FAILED}  # so that no path takes it
         self.answered = set()
@@ -239,10 +246,19 @@ class Lookup:
         self.open += 1
         self.asked += 1
         self.hostile += self.field.misleads(contact)
+        if self.is_shared:
+            self.lend(path, contact)
         self.deadlines.append((self.moment + TIMEOUT, contact, path))
         answer = self.field.answer(contact)
         if answer is not None:
             heapq.heappush(self.waiting, (self.moment + answer[0], self.asked, contact, path, answer[1]))
+
+    def lend(self, asker, contact):
+        """Takes a contact that a path asks from the lists of the others. None of them has something new to ask by that: where it
+        was among the k closest of another, that one has as many open as it may."""
+        for path in self.paths:
+            if path is not asker and is_among(path.alive, contact):
+                del path.alive[bisect.bisect_left(path.alive, contact)]
 
     def end(self, path, contact, state):
         self.states[contact] = state
@@ -283,27 +299,39 @@ class Lookup:
             came = self.receive(self.moment)
             receives += 1
 
+    def is_held(self, path, contact):
+        """Whether a contact that the path is told of is a path's already."""
+        state = self.states.get(contact)
+        if state == FRESH and self.is_shared:
+            return is_among(path.alive, contact)
+        return state is not None
+
     def settle_all(self):
-        states = self.states
         for path in self.paths:
             if path.heard:
                 for contact in path.heard:
-                    if contact not in states and path.count < self.capacity:
+                    if not self.is_held(path, contact) and path.count < self.capacity:
                         self.take(path, contact)
                 path.heard = []
 
     def found(self, count):
-        """The closest of all that the paths have and that didn't fail."""
-        return heapq.nsmallest(count, [contact for path in self.paths for contact in path.alive])
+        """The closest of all that the paths have and that didn't fail, each once."""
+        return heapq.nsmallest(count, {contact for path in self.paths for contact in path.alive})
+
+    def spread(self, count):
+        """The closest of each path that didn't fail: who is told by `--spread yes`."""
+        return {contact for path in self.paths for contact in path.alive[:count]}
 
 
 # ------------------------------------------------------------------------------------------------- ways of looking up
 
 
 class Way:
-    """How one who looks a target up spends his queries. `united` has who is found, nearest first."""
+    """How one who looks a target up spends his queries. `united` has who is found, nearest first, and `spread` the k closest of
+    each path."""
 
     def __init__(self, lookups, k):
+        self.spread = set().union(*[lookup.spread(k) for lookup in lookups])
         self.united = sorted({contact for lookup in lookups for contact in lookup.found(k)})[:k]
         self.answered = set().union(*[lookup.answered for lookup in lookups])
         self.asked = sum(lookup.asked for lookup in lookups)
@@ -311,9 +339,9 @@ class Way:
         self.time = max(lookup.moment for lookup in lookups)
 
 
-def disjoint(field, own, seeds, k, paths, alpha):
+def disjoint(field, own, seeds, k, paths, alpha, claim="named"):
     """One lookup on so many disjoint paths."""
-    return Way([Lookup(field, own, seeds, k, paths, alpha)], k)
+    return Way([Lookup(field, own, seeds, k, paths, alpha, claim=claim)], k)
 
 
 def wide(field, own, seeds, k, look, alpha, capacity=CAPACITY):

@@ -188,9 +188,9 @@ CASES = {
 
 def draw_values(table, path):
     """How often a value is got, and how often a new one is kept, beside the queries."""
-    points = by_point(table, ("nodes", "case", "paths"))
+    points = by_point(table, ("nodes", "case", "paths", "claim"))
     nodes = str(min(int(key[0]) for key in points))
-    one = points[nodes, "at key", "1"]
+    one = points[nodes, "at key", "1", "named"]
     about = "{:,} honest nodes, k 8; {} networks of {} values; " + BARS
     picture = Picture("Values, where hostile nodes join a network", about.format(int(nodes), len(one), one[0]["values"]))
     panels = (("got", 58, 406, "Got: values put before they came"), ("kept", 500, 848, "Got: values put after they came"))
@@ -200,7 +200,7 @@ def draw_values(table, path):
         for place, (case, (kind, word)) in enumerate(CASES.items()):
             line = []
             for paths in PATHS:
-                rows = points[nodes, case, paths]
+                rows = points[nodes, case, paths, "named"]
                 line.append((share_of(rows, "asked", "values")[0] / 100, *share_of(rows, name, "values")))
             panel.line(kind, line)
             if case == "at key":
