@@ -37,12 +37,12 @@ class Periods(KeeperTest):
         wanted = {"status": "0", "live": "1", "received": "7", "replied": "5", "found": "2", "announced": "1", "stored": "1"}
         self.assertEqual(kept.each(*wanted), [wanted] * 3, "the periods")
         self.assertEqual(kept.each("refresh"), ["-", "0", "0"])
-        told = " --bind 127.0.0.1:6999 --k 5 --per-address 8 --timeout 90"
+        told = " --bind 127.0.0.1:6999 --k 5 --per-address 8 --timeout 90 --claim asked"
         for part in (
             "node --own %s --minutes 3 --receives 1000000000 --table yes%s" % (own, told),
             "refresh --all yes --timeout 90 --bind 127.0.0.1:0",
-            "peers --key %s --announce 6881 --bind 127.0.0.1:0 --k 5 --per-address 1 --timeout 90" % key,
-            "put --value 353a68656c6c6f --bind 127.0.0.1:0 --k 5 --per-address 1 --timeout 90",
+            "peers --key %s --announce 6881 --bind 127.0.0.1:0 --k 5 --per-address 1 --timeout 90 --claim asked" % key,
+            "put --value 353a68656c6c6f --bind 127.0.0.1:0 --k 5 --per-address 1 --timeout 90 --claim asked",
         ):
             self.assertIn(part, kept.commands())
         one = FIRST.strip()
@@ -50,6 +50,22 @@ class Periods(KeeperTest):
         self.assertEqual(kept.inputs(), wanted, "the input")
         self.assertTrue(is_whole(kept.text("node/table")), kept.text("node/table"))
         self.assertEqual(sorted(os.listdir(kept.file("node"))), ["bootstrap", "jobs", "log", "options", "own", "table"], "it left")
+
+    def test_a_kept_node_claims_what_it_asks(self):
+        """A node, or a job that it leaves to a command, to which a name is a claim, unless options say so; one that is given both rules,
+        or none."""
+        for options, claim in (("", "asked"), ("--claim named\n", "named"), ("--claim asked\n", "asked")):
+            with self.subTest(options=options):
+                # The number makes the job a command's.
+                options = "--bind 127.0.0.1:6999\n--per-address 1\n" + options
+                kept = self.kept(bootstrap=FIRST, options=options, jobs="put 353a68656c6c6f\n")
+                said = kept.run("--periods", "1", env={"NOLZAVIRT_KEEP_MINUTE": "60"})
+                self.assertEqual((said.returncode, said.stderr), (0, ""))
+                by_kind = {row.split()[0]: row.split() for row in kept.commands() if "--bind" in row or row.startswith("node ")}
+                self.assertEqual(sorted(by_kind), ["node", "put"], "commands that look up")
+                for words in by_kind.values():
+                    self.assertEqual(words.count("--claim"), 1, words)
+                    self.assertEqual(words[words.index("--claim") + 1], claim)
 
     def test_a_kept_node_under_puzzles_begins_with_its_bootstrap(self):
         """An input without the proofs of its nodes; a minted identifier without its key and X, or of which the node brings no proof; a

@@ -1,11 +1,13 @@
 """What a lookup takes of the answers that it gets: odd ones, many reports, many names, and peers."""
 
+import hashlib
 import socket
+import threading
 
 from shared.case import ProgramTest
-from shared.messages import answer, bdecode, bencode, counts, found, gives, identifier, minted
+from shared.messages import answer, bdecode, bencode, counts, found, gives, identifier, minted, record
 from shared.peers import answers
-from shared.program import limited, lookup, peers, run, until
+from shared.program import limited, lookup, path, peers, run, until
 
 
 def nested(lists):
@@ -46,6 +48,40 @@ ODD_ANSWERS = {
 def peer_lines(peers):
     """The lines of these peers, each six bytes, in their order."""
     return "".join("%s:%d\n" % (socket.inet_ntoa(p[:4]), int.from_bytes(p[4:], "big")) for p in sorted(set(peers)))
+
+
+class FirstContacts:
+    """Nodes of one test, by how far they are from the key of a value, of whom a first contact, 10, is hostile.
+
+    It and its own nodes, 1 and 2, name these and the two honest nodes that are closest to the key, 3 and 4, which have the
+    value. The other first contact, 11, is honest and names these two too; it answers once 1 was asked, so that what 10 named is
+    settled by then."""
+
+    VALUE = bencode(b"on a path of its own")
+    HOSTILE, NAMED = (10, 1, 2), {10: (1, 2, 3, 4), 1: (1, 2, 3, 4), 2: (1, 2, 3, 4), 11: (3, 4), 3: (3, 4), 4: (3, 4)}
+
+    def __init__(self, make):
+        self.key = hashlib.sha1(self.VALUE).digest()
+        self.is_led, self.stored = threading.Event(), set()
+        self.peers = {}
+        for far in self.NAMED:
+            name = self.key[:19] + bytes([self.key[19] ^ far])
+            self.peers[far] = make(name, play=lambda peer, query, source, far=far: self.play(far, peer, query, source))
+
+    def play(self, far, peer, query, source):
+        if bdecode(query)[b"q"] == b"put":
+            self.stored.add(far)
+            return
+        if far == 1:
+            self.is_led.set()
+        if far == 11:
+            self.is_led.wait(10)
+        nodes = b"".join(record(one.name, one.host, one.port) for one in map(self.peers.get, self.NAMED[far]))
+        more = {"v": bdecode(self.VALUE)} if far in (3, 4) else {}
+        peer.socket.sendto(gives(query, peer.name, nodes=nodes, token=b"%d" % far, **more), source)
+
+    def begin(self):
+        return self.peers[10].line() + self.peers[11].line()
 
 
 def some_peers(numbers):
@@ -133,6 +169,31 @@ class Lookups(ProgramTest):
         self.assertEnds(ended, 0, found(*(crowd.line(*one) for one in nearest), asked=8 * 35, turned=8 * (35 * 16 - 255)))
         self.assertEqual(len(names), 8 + 8 * 35 * 16, "named are others")
         self.assertGreater(len(names), 4096)
+
+
+class Claims(ProgramTest):
+    """By hand: the path that 10 begins takes 1, 2, 3 and 4, asks 1 and 2, and has its two closest. Where a name is a claim, 3 and
+    4 are on that path, and the other path has 11 alone. Where an ask is one, the other path takes both and asks them."""
+
+    def test_a_hostile_first_contact_takes_nodes_by_naming_them(self):
+        """A lookup to which a name is a claim although an ask should be one, or the other way round; a default that isn't `named`."""
+        value = "value %s\n" % FirstContacts.VALUE.hex()
+        for words, asked, out in (((), 4, "none\n"), (("--claim", "named"), 4, "none\n"), (("--claim", "asked"), 6, value)):
+            with self.subTest(words=words):
+                nodes = FirstContacts(self.peer)
+                ended = run([path(), "get", "--key", nodes.key.hex(), "--k", "2", "--paths", "2", *words], nodes.begin())
+                self.assertEnds(ended, 0, out + counts(2, asked) + "\n")
+
+    def test_a_value_is_spread_to_whom_each_path_asked(self):
+        """A put with `--spread yes` that goes to nodes that the path doesn't have, or leaves out those that it has by an ask."""
+        for claim, asked, told in (("named", 4, {1, 2, 11}), ("asked", 6, {1, 2, 3, 4})):
+            with self.subTest(claim):
+                nodes = FirstContacts(self.peer)
+                words = [path(), "put", "--value", nodes.VALUE.hex(), "--k", "2", "--paths", "2", "--spread", "yes", "--claim", claim]
+                ended = run(words, nodes.begin())
+                self.assertEnds(ended, 0, "key %s\n%s stored %d\n" % (nodes.key.hex(), counts(2, asked), len(told)))
+                until(lambda: len(nodes.stored) >= len(told), 5, 0.005)
+                self.assertEqual(nodes.stored, told)
 
 
 class Peers(ProgramTest):

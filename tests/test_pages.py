@@ -167,6 +167,16 @@ class Names(ProgramTest):
         with self.subTest("the tests and edits of docs/PROVING.md"):
             self.assertNamesTests(page("docs/PROVING.md").partition("## What no clause")[2])
 
+    def test_the_page_of_contracts_counts_what_may_wait(self):
+        """A number of functions that may wait which isn't the sum of crates.txt, or of places that wait which isn't that of WAITS."""
+        text = page("docs/CONTRACTS.md").partition("## What may wait")[2].partition("\n## ")[0]
+        (lines, said), = steps(text)
+        ran = subprocess.run(["bash", "-c", lines], cwd=ROOT, capture_output=True, text=True, check=True)
+        self.assertEqual(ran.stdout, said)
+        places = re.search(r"^WAITS = \{\n(.*?)^\}", page("tools/made_up"), re.M | re.S)[1].splitlines()
+        numbers = {"eight": 8, "nine": 9, "ten": 10, "eleven": 11}
+        self.assertEqual(numbers[re.search(r"waits in (\w+) places", text)[1]], len(places))
+
     def assertNamesTests(self, text):
         named = re.findall(r"`([a-z]+(?:_[a-z0-9]+){2,})`", text)
         there = EDITS | set(re.findall(r"\bfn (\w+)", sources()))

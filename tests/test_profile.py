@@ -13,12 +13,12 @@ from test_pages import steps
 
 # What docs/OPEN_NETWORK recommends for each command among strangers.
 RECOMMENDED = {
-    "lookup": "--paths 8 --per-address 1",
-    "peers": "--paths 8 --per-address 1 --spread yes",
-    "get": "--paths 8 --per-address 1",
-    "put": "--paths 8 --per-address 1 --spread yes",
+    "lookup": "--paths 8 --claim asked --per-address 1",
+    "peers": "--paths 8 --claim asked --per-address 1 --spread yes",
+    "get": "--paths 8 --claim asked --per-address 1",
+    "put": "--paths 8 --claim asked --per-address 1 --spread yes",
     "serve": "--per-address 8",
-    "node": "--paths 8 --per-address 8",
+    "node": "--paths 8 --claim asked --per-address 8",
     "table": "",
     "refresh": "",
     "check": "",
@@ -85,9 +85,9 @@ class Profile(KeeperTest):
             words = [os.path.join(home, "nolzavirt"), "--profile", "open"]
             quiet = {"stdin": subprocess.DEVNULL, "capture_output": True, "text": True}
             said = subprocess.run([*words, "get", "--key", TARGET], **quiet)
-            self.assertEqual((said.returncode, said.stdout), (0, "get --key %s --paths 8 --per-address 1\n" % TARGET), said)
+            self.assertEqual((said.returncode, said.stdout), (0, "get --key %s --paths 8 --claim asked --per-address 1\n" % TARGET), said)
             said = subprocess.run([*words, "--show", "get", "--key", TARGET], **quiet)
-            self.assertEqual(said.stdout, "./nolzavirt get --key %s --paths 8 --per-address 1\n" % TARGET)
+            self.assertEqual(said.stdout, "./nolzavirt get --key %s --paths 8 --claim asked --per-address 1\n" % TARGET)
             said = subprocess.run([words[0], "get", "--key", TARGET], **quiet)
             self.assertEqual(said.stdout, "get --key %s\n" % TARGET, "without a profile")
 
@@ -132,9 +132,9 @@ class Keeper(KeeperTest):
         """A node or a job of a folder without what is recommended, or with another number than the folder's."""
         jobs = "announce %s 6881\nput 353a68656c6c6f\n" % TARGET
         for given, node, others in (
-            ("", "--paths 8 --per-address 8", "--paths 8 --per-address 1 --spread yes"),
-            ("--paths 2\n--per-address 3\n", "--paths 2 --per-address 8", "--paths 2 --per-address 3 --spread yes"),
-            ("--node-per-address 1\n", "--paths 8 --per-address 1", "--paths 8 --per-address 1 --spread yes"),
+            ("", "--paths 8 --claim asked --per-address 8", "--paths 8 --claim asked --per-address 1 --spread yes"),
+            ("--paths 2\n--per-address 3\n", "--paths 2 --claim asked --per-address 8", "--paths 2 --claim asked --per-address 3 --spread yes"),
+            ("--node-per-address 1\n", "--paths 8 --claim asked --per-address 1", "--paths 8 --claim asked --per-address 1 --spread yes"),
         ):
             with self.subTest(given.replace("\n", " ")):
                 kept = self.kept(bootstrap=FIRST, options=given, jobs=jobs)
@@ -150,8 +150,8 @@ class Keeper(KeeperTest):
         """A keeper that begins to keep a folder when it is only to show what it would do, or shows something else."""
         kept = self.kept(options="--bind 127.0.0.1:6999\n--paths 4\n")
         for folder, node, others in (
-            ("node", "--bind 127.0.0.1:6999 --paths 4 --per-address 8", "--bind 127.0.0.1:0 --paths 4 --per-address 1 --spread yes"),
-            ("none", "--paths 8 --per-address 8", "--paths 8 --per-address 1 --spread yes"),
+            ("node", "--bind 127.0.0.1:6999 --paths 4 --claim asked --per-address 8", "--bind 127.0.0.1:0 --paths 4 --claim asked --per-address 1 --spread yes"),
+            ("none", "--paths 8 --claim asked --per-address 8", "--paths 8 --claim asked --per-address 1 --spread yes"),
         ):
             with self.subTest(folder):
                 words = [kept.file("nolzavirt-keep"), "--profile", "open", "--show", kept.file(folder), "--period", "7"]

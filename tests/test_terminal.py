@@ -218,7 +218,7 @@ class Interrupts(TerminalTest):
     def test_ctrl_c_ends_the_compiler_of_an_unproved_run(self):
         """A compiler that goes on for a minute when its run was ended, since the kit was told to end it, and then told again."""
         environment = self.kit_is(KIT)
-        for number in range(3):
+        for number in range(20):
             with self.subTest(number):
                 terminal = self.terminal("--unproved", "sim", env=environment)
                 self.assertTrue(until(lambda: os.path.exists(self.mark) and page(self.mark)), "the kit wasn't run")

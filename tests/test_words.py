@@ -17,6 +17,7 @@ VALUES = {
     ),
     "an even number of hex digits, at least two": (["00", "353a68656c6c6F"], ["", "0", "000", "g0"]),
     "4 or 6": (["4", "6"], ["5", "46", "04"]),
+    "named or asked": (["named", "asked"], ["name", "Asked", "namedasked", ""]),
     "yes or no": (["yes", "no"], ["maybe", "Yes", "yesno", ""]),
     "an address and port, a.b.c.d:port or [h:h:h:h:h:h:h:h]:port, each h four hex digits": (
         ["127.0.0.1:0", "[%s0001]:0" % ("0000:" * 7)],
@@ -90,6 +91,8 @@ class Words(ProgramTest):
             (["lookup", "--target", ""], "It takes " + id_form),
             (["lookup", "--target", TARGET, "--k=3"], "write it as two words, '--k 3'"),
             (["lookup"], "'--target' has to be given"),
+            (["get", "--key", TARGET, "--claim", "told"], "'--claim' can't be 'told'. It takes named or asked"),
+            (["serve", "--claim", "asked"], "'serve' has no option '--claim'. It belongs to: lookup peers get put node sim"),
             (["find"], "no command 'find'. The commands are: lookup "),
         )
         for words, part in wrong:
